@@ -1,0 +1,44 @@
+-- What an article finds, what a book answers, and how that is written. Assumes nothing.
+use mathlib.Core.Bool.{cond}
+use mathlib.Core.List.{List, _++_}
+use Prim.Native.Nat.{ℕ}
+use lib.Chars.{codes}
+use lib.Dec.{leb}
+use Rattle.std.specs.Written.{decimal}
+use Rattle.books.specs.declared.answers.Sides.{Sides}
+use Rattle.books.specs.declared.answers.Finding.{Finding}
+use Rattle.books.specs.declared.answers.Finding.the-variants.{Held, Broken, NotApplicable}
+use Rattle.books.specs.declared.answers.Verdict.{Verdict}
+use Rattle.books.specs.declared.answers.Verdict.the-variants.{Certificate, Breaks}
+
+abbrev pub sides : ℕ → ℕ → Sides
+sides l r = record { left = l; right = r }
+
+-- held where the left side is at least the right
+abbrev pub at-least : ℕ → ℕ → Finding
+at-least l r = cond (leb r l) (Held (sides l r)) (Broken (sides l r))
+
+-- held where the left side is at most the right
+abbrev pub at-most : ℕ → ℕ → Finding
+at-most l r = cond (leb l r) (Held (sides l r)) (Broken (sides l r))
+
+-- the sides compared; 0 and 0 where the article does not apply
+abbrev pub sides-of : Finding → Sides
+sides-of (Held s) = s
+sides-of (Broken s) = s
+sides-of NotApplicable = sides 0 0
+
+-- the number of the article that a verdict names; 0 where it names none
+abbrev pub article-of : Verdict → ℕ
+article-of Certificate = 0
+article-of (Breaks n s) = n
+
+-- the sides of the article that a verdict names; 0 and 0 where it names none
+abbrev pub verdict-sides : Verdict → Sides
+verdict-sides Certificate = sides 0 0
+verdict-sides (Breaks n s) = s
+
+-- a verdict as it is written
+abbrev pub verdict-text : Verdict → List ℕ
+verdict-text Certificate = codes "certificate"
+verdict-text (Breaks n s) = codes "broken " ++ (decimal n ++ (codes " " ++ (decimal (s .left) ++ (codes " " ++ decimal (s .right)))))

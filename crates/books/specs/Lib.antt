@@ -1,0 +1,3 @@
+pub mod Findings
+pub mod Meanings
+pub mod Verdicts

@@ -1,0 +1,2 @@
+// Messages: the bytes that carry a sheet, read and written.
+pub mod message;

@@ -1,0 +1,2 @@
+// What is answered to a message, as a line of text.
+pub mod line;

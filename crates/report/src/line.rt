@@ -1,0 +1,28 @@
+// The line that an answer is printed as: `certificate`, `broken 4 60300 62800` or `refused I3 1 116`.
+ghost use Rattle.std.specs.declared.option.Option.the-variants.{Some};
+ghost use Rattle.report.specs.Lines.{line-text};
+use books::answers::Verdict;
+use books::answers::VerdictDisplay;
+use sheets::faults::JobFault;
+use sheets::faults::RefusalDisplay;
+use std::fmt;
+
+// The answer to a message.
+#[derive(Clone, Copy)]
+pub struct Line {
+    pub answer: Result<Verdict, JobFault>,
+}
+
+pub impl fmt::Display for Line as LineDisplay {
+    ghost shown = { λ line. Some (line-text (line .answer)) };
+
+    fn fmt<W: fmt::Write>(&self, f: &mut fmt::Formatter<W>) -> fmt::Result {
+        match self.answer {
+            Ok(verdict) => write!(f, "{verdict}"),
+            Err(fault) => {
+                let refusal = fault.refusal();
+                write!(f, "refused {refusal}")
+            }
+        }
+    }
+}

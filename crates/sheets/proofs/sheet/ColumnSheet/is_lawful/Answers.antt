@@ -1,0 +1,9 @@
+use mathlib.Core.Path.{ap, _∙_}
+use Rattle.tables.specs.Limits.{admitted}
+use Rattle.sheets.specs.Limits.{column-limits}
+use Rattle.sheets.proofs.sheet.ColumnSheet.is_lawful.Needs as need
+
+pub returns : need.returns
+returns c = record {
+  decides-lawful = c .admits-all .ensures .tells-the-limits ∙ ap (admitted column-limits) (c .numbers .ensures .gives-the-numbers-in-order);
+}

@@ -1,0 +1,3 @@
+pub mod Materials
+pub mod Codes
+pub mod Limits
