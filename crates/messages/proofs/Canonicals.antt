@@ -48,7 +48,7 @@ pub record Due (tag : ℕ) (bs body rest : List ℕ) : Type 0 where
   pub spelled : bs ≡ tag ∷ hi ∷ lo ∷ (body ++ rest)
   pub long : length body ≡ two-byte hi lo
 
-cut-ok : (at : ℕ) (bs : List ℕ) (f : Cut) → cut at bs ≡ Ok f → Due (f .tag) bs (f .body) (f .rest)
+pub cut-ok : (at : ℕ) (bs : List ℕ) (f : Cut) → cut at bs ≡ Ok f → Due (f .tag) bs (f .body) (f .rest)
 cut-ok at [] f e = absurd (let z : _≡_ {A = ℕ} 0 1 = cc in omega arith)
 cut-ok at (t ∷ []) f e = absurd (let z : _≡_ {A = ℕ} 0 1 = cc in omega arith)
 cut-ok at (t ∷ hi ∷ []) f e = absurd (let z : _≡_ {A = ℕ} 0 1 = cc in omega arith)
@@ -62,7 +62,7 @@ cut-ok at (t ∷ hi ∷ lo ∷ after) f e =
       long = length-take-le n after (leb-true n (length after) (parts .0));
     })
 
-body-ok : (tag at : ℕ) (bs body rest : List ℕ) → body-due tag at bs ≡ Ok (body, rest) → Due tag bs body rest
+pub body-ok : (tag at : ℕ) (bs body rest : List ℕ) → body-due tag at bs ≡ Ok (body, rest) → Due tag bs body rest
 body-ok tag at bs body rest e =
     let split = then-ok (cut at bs) _ (body, rest) e in
     let parts = cond-ok (eqb (split .0 .tag) tag) (split .0 .body, split .0 .rest) (body, rest) _ (split .2) in
@@ -92,7 +92,7 @@ front-bytes [] ys bytes i = lit< tt
 front-bytes (x ∷ xs) ys bytes zero = bytes 0
 front-bytes (x ∷ xs) ys bytes (suc i) = front-bytes xs ys (λ j. bytes (suc j)) i
 
-back-bytes : (xs ys : List ℕ) → Bytes (xs ++ ys) → Bytes ys
+pub back-bytes : (xs ys : List ℕ) → Bytes (xs ++ ys) → Bytes ys
 back-bytes [] ys bytes = bytes
 back-bytes (x ∷ xs) ys bytes = back-bytes xs ys (λ j. bytes (suc j))
 
@@ -107,7 +107,7 @@ due-spelled tag bs body rest bytes short due =
     let parts = spelled-length (due .hi) (due .lo) (length body) low short (due .long) in
     due .spelled ∙ ap (λ hi. tag ∷ hi ∷ due .lo ∷ (body ++ rest)) (parts .0) ∙ ap (λ lo. tag ∷ 0 ∷ lo ∷ (body ++ rest)) (parts .1)
 
-number-ok : (l : Limit) (tag at : ℕ) (bs : List ℕ) (n : ℕ) (rest : List ℕ) → Bytes bs → number-due l tag at bs ≡ Ok (n, rest) → (bs ≡ field tag (four-bytes n) ++ rest) × (within l n ≡ true)
+pub number-ok : (l : Limit) (tag at : ℕ) (bs : List ℕ) (n : ℕ) (rest : List ℕ) → Bytes bs → number-due l tag at bs ≡ Ok (n, rest) → (bs ≡ field tag (four-bytes n) ++ rest) × (within l n ≡ true)
 number-ok l tag at bs n rest bytes e =
     let split = then-ok (raised (body-due tag at bs)) _ (n, rest) e in
     let due = body-ok tag at bs (split .0 .0) (split .0 .1) (raised-ok _ _ (split .1)) in
@@ -126,7 +126,7 @@ number-ok l tag at bs n rest bytes e =
 
 -- All numbers.
 
-numbers-ok : (i : ℕ) (ls : List Limit) (bs ns rest : List ℕ) → Bytes bs → numbers-due i ls bs ≡ Ok (ns, rest) → (bs ≡ number-fields i ns ++ rest) × (admitted ls ns ≡ true)
+pub numbers-ok : (i : ℕ) (ls : List Limit) (bs ns rest : List ℕ) → Bytes bs → numbers-due i ls bs ≡ Ok (ns, rest) → (bs ≡ number-fields i ns ++ rest) × (admitted ls ns ≡ true)
 unfolding admitted
 numbers-ok i [] bs ns rest bytes e =
     let same : _≡_ {A = List ℕ × List ℕ} ([], bs) (ns, rest) = cc in
@@ -156,7 +156,7 @@ all-ok ls bs ns bytes e =
     (all .0 ∙ ap (λ xs. number-fields 0 (split .0 .0) ++ xs) none ∙ append-nil (number-fields 0 (split .0 .0)) ∙ ap (number-fields 0) is, subst (λ xs. admitted ls xs ≡ true) is (all .1))
 
 -- as many numbers as limits
-admitted-length : (ls : List Limit) (ns : List ℕ) → admitted ls ns ≡ true → length ns ≡ length ls
+pub admitted-length : (ls : List Limit) (ns : List ℕ) → admitted ls ns ≡ true → length ns ≡ length ls
 unfolding admitted
 admitted-length [] [] e = refl
 admitted-length [] (n ∷ ns) e = absurd (false≢true e)
@@ -179,7 +179,7 @@ kind-numbered n kinds.Beam e = grind (arith, tells)
 kind-numbered n kinds.Column e = grind (arith, tells)
 kind-numbered n kinds.Wall e = grind (arith, tells)
 
-kind-ok : (bs : List ℕ) (kind : Kind) (rest : List ℕ) → Bytes bs → kind-due bs ≡ Ok (kind, rest) → bs ≡ field 1 (kind-number kind ∷ []) ++ rest
+pub kind-ok : (bs : List ℕ) (kind : Kind) (rest : List ℕ) → Bytes bs → kind-due bs ≡ Ok (kind, rest) → bs ≡ field 1 (kind-number kind ∷ []) ++ rest
 kind-ok bs kind rest bytes e =
     let split = then-ok (raised (body-due 1 0 bs)) _ (kind, rest) e in
     let due = body-ok 1 0 bs (split .0 .0) (split .0 .1) (raised-ok _ _ (split .1)) in

@@ -5,3 +5,4 @@ pub mod Numbers
 pub mod Written
 pub mod ReadBack
 pub mod Canonicals
+pub mod Faults

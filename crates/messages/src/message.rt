@@ -9,6 +9,7 @@ ghost use Rattle.std.specs.Results.{Cases};
 ghost use Rattle.std.specs.Vec.{made};
 ghost use Rattle.std.specs.declared.result.Result.the-variants.{Ok, Err};
 ghost use Rattle.sheets.specs.declared.sheet.Sheet.{Sheet};
+ghost use Rattle.messages.specs.Faulty.{FaultAt};
 ghost use Rattle.messages.specs.Messages.{cut, body-due, one-byte, four-byte, kind-due, number-due, numbers-due, ended, size-due, sheet-due, decoded, number-fields, message-of, message, put, put-length, lawful-sheet, Canonical, ReadsBack};
 use sheets::faults::JobFault;
 use sheets::faults::MessageFault;
@@ -172,6 +173,7 @@ fn read_sheet(kind: Kind, bytes: &[u8]) -> Result<Sheet, SheetFault>
 pub fn decode(message: &[u8]) -> Result<Sheet, SheetFault>
     ensures sheet_or_first_fault { λ r. ⌜ r ≡ decoded (now (message .entry)) ⌝ }
     ensures accepted_bytes_are_the_sheets_message { λ r. ⌜ made r (λ sheet. Canonical (now (message .entry)) sheet) ⌝ }
+    ensures refused_where_it_is_at_fault { λ r. ⌜ Cases r (λ _. Unit {0}) (λ fault. FaultAt (now (message .entry)) fault) ⌝ }
     ensures lawful_sheets_read_back { λ _. ⌜ ((sheet : Sheet) → ReadsBack sheet) ⌝ }
 {
     read_message(message)
