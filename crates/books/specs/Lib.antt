@@ -1,3 +1,4 @@
 pub mod Findings
 pub mod Meanings
 pub mod Verdicts
+pub mod Numbered

@@ -1,8 +1,7 @@
 -- A sheet's numbers in the order of its message, and which sheets are lawful. Assumes nothing.
-use mathlib.Core.Bool.{Bool, _&&_}
+use mathlib.Core.Bool.{Bool}
 use mathlib.Core.List.{List, [], _∷_}
-use Prim.Native.Nat.{ℕ, _*_}
-use lib.Dec.{leb}
+use Prim.Native.Nat.{ℕ}
 use lib.ListN.{getD}
 use Rattle.tables.specs.Limits.{admitted}
 use Rattle.sheets.specs.Limits.{beam-limits, column-limits, wall-limits}
@@ -12,7 +11,6 @@ use Rattle.sheets.specs.declared.sheet.Spaced.{Spaced}
 use Rattle.sheets.specs.declared.sheet.BeamSheet.{BeamSheet}
 use Rattle.sheets.specs.declared.sheet.ColumnSheet.{ColumnSheet}
 use Rattle.sheets.specs.declared.sheet.WallSheet.{WallSheet}
-use Rattle.sheets.specs.declared.sheet.Wall.{Wall}
 
 -- the parts that several sheets share, from the place where they stand in the list
 abbrev heading-of : List ℕ → Heading
@@ -87,7 +85,3 @@ lawful-column c = admitted column-limits (column-numbers c)
 
 abbrev pub lawful-wall-sheet : WallSheet → Bool
 lawful-wall-sheet w = admitted wall-limits (wall-numbers w)
-
--- a wall also carries at least seven tenths of its sheet's shear, and at most 10,000,000 N
-abbrev pub lawful-wall : Wall → Bool
-lawful-wall w = lawful-wall-sheet (w .sheet) && leb (7 * w .sheet .shear) (10 * w .carried) && leb (w .carried) 10000000

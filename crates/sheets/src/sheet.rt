@@ -1,6 +1,6 @@
 // The three sheets, by name, and the same numbers in the order of the message.
 ghost use mathlib.Core.Path.{_≡_};
-ghost use Rattle.sheets.specs.Sheets.{beam-of, column-of, wall-of, beam-numbers, column-numbers, wall-numbers, lawful-beam, lawful-column, lawful-wall-sheet, lawful-wall};
+ghost use Rattle.sheets.specs.Sheets.{beam-of, column-of, wall-of, beam-numbers, column-numbers, wall-numbers, lawful-beam, lawful-column, lawful-wall-sheet};
 use crate::limits::BEAM_LIMITS;
 use crate::limits::COLUMN_LIMITS;
 use crate::limits::WALL_LIMITS;
@@ -84,16 +84,6 @@ pub enum Sheet {
     Column(ColumnSheet),
     Wall(WallSheet),
 }
-
-// A wall panel with the shear in N that it carries now; it begins with its sheet's.
-#[derive(Clone, Copy)]
-pub struct Wall {
-    pub sheet: WallSheet,
-    pub carried: u32,
-}
-
-// The greatest shear in N that a wall may carry.
-const MOST_CARRIED: u32 = 10_000_000;
 
 impl BeamSheet {
     // The sheet of these numbers, in the order of the message.
@@ -328,17 +318,5 @@ impl WallSheet {
         ensures decides_lawful { λ r. ⌜ r ≡ lawful-wall-sheet (now (self .entry)) ⌝ }
     {
         admits_all(&WALL_LIMITS, &self.numbers())
-    }
-}
-
-impl Wall {
-    // Whether the sheet is lawful, and the wall carries at least seven tenths of its sheet's shear and no more than
-    // any wall may.
-    pub fn is_lawful(&self) -> bool
-        ensures decides_lawful { λ r. ⌜ r ≡ lawful-wall (now (self .entry)) ⌝ }
-    {
-        let carried = u64::from(self.carried);
-        let shear = u64::from(self.sheet.shear);
-        self.sheet.is_lawful() && 7 * shear <= 10 * carried && self.carried <= MOST_CARRIED
     }
 }

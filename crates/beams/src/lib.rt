@@ -1,0 +1,2 @@
+// The beam book.
+pub mod articles;

@@ -1,0 +1,2 @@
+// The column book.
+pub mod articles;

@@ -1,0 +1,2 @@
+// The wall book.
+pub mod articles;
