@@ -12,10 +12,8 @@ use members::areas::GREATEST_ROOT;
 use members::areas::GREATEST_ZONE;
 use members::areas::area_of;
 use members::areas::bar_area_of;
-use members::areas::greater;
 use members::areas::product;
 use members::areas::root_of;
-use members::areas::smaller;
 use members::member::Beam;
 use members::member::BeamMember;
 use sheets::sheet::BeamSheet;
@@ -59,7 +57,7 @@ fn least_smaller_area(beam: &BeamSheet) -> Finding
 {
     let sizes = sizes(beam);
     Finding::at_least(
-        42_000 * smaller(sizes.top, sizes.bottom),
+        42_000 * sizes.top.min(sizes.bottom),
         section_strength(sizes),
     )
 }
@@ -69,10 +67,7 @@ fn most_greater_area(beam: &BeamSheet) -> Finding
     ensures greater_area_against_the_section { λ r. ⌜ r ≡ most-greater-area (now (beam .entry)) ⌝ }
 {
     let sizes = sizes(beam);
-    Finding::at_most(
-        40 * greater(sizes.top, sizes.bottom),
-        sizes.width * sizes.depth,
-    )
+    Finding::at_most(40 * sizes.top.max(sizes.bottom), sizes.width * sizes.depth)
 }
 
 fn most_area_for_concrete(beam: &BeamSheet) -> Finding
@@ -80,8 +75,8 @@ fn most_area_for_concrete(beam: &BeamSheet) -> Finding
     ensures greater_area_against_smaller_and_concrete { λ r. ⌜ r ≡ most-area-for-concrete (now (beam .entry)) ⌝ }
 {
     let sizes = sizes(beam);
-    let greater = greater(sizes.top, sizes.bottom);
-    let smaller = smaller(sizes.top, sizes.bottom);
+    let greater = sizes.top.max(sizes.bottom);
+    let smaller = sizes.top.min(sizes.bottom);
     Finding::at_most(
         product::<MOST_SCALED_AREA, MOST_AREA>(42_000 * greater, greater),
         product::<MOST_JOINT_AREA, MOST_SECTION_STRENGTH>(
@@ -126,7 +121,7 @@ fn least_face_area(beam: &BeamSheet) -> Finding
     if 13_500_000 * sizes.shear > face_share(beam.heading.concrete) * borne_shear(sizes) {
         Finding::at_least(
             product::<MOST_AREA, GREATEST_ZONE>(sizes.face, sizes.zone),
-            15 * greater(sizes.top, sizes.bottom),
+            15 * sizes.top.max(sizes.bottom),
         )
     } else {
         Finding::NotApplicable

@@ -28,17 +28,7 @@ sides-of (Held s) = s
 sides-of (Broken s) = s
 sides-of NotApplicable = sides 0 0
 
--- the number of the article that a verdict names; 0 where it names none
-abbrev pub article-of : Verdict → ℕ
-article-of Certificate = 0
-article-of (Breaks n s) = n
-
--- the sides of the article that a verdict names; 0 and 0 where it names none
-abbrev pub verdict-sides : Verdict → Sides
-verdict-sides Certificate = sides 0 0
-verdict-sides (Breaks n s) = s
-
--- a verdict as it is written
+-- a verdict as it is written: with the number of the article that it names, and both sides
 abbrev pub verdict-text : Verdict → List ℕ
 verdict-text Certificate = codes "certificate"
 verdict-text (Breaks n s) = codes "broken " ++ (decimal n ++ (codes " " ++ (decimal (s .left) ++ (codes " " ++ decimal (s .right)))))

@@ -1,6 +1,6 @@
 // What one article finds on a member, and what a whole book answers.
 ghost use mathlib.Core.Path.{_≡_};
-ghost use Rattle.books.specs.Findings.{article-of, at-least, at-most, sides-of, verdict-sides, verdict-text};
+ghost use Rattle.books.specs.Findings.{at-least, at-most, sides-of, verdict-text};
 ghost use Rattle.std.specs.declared.option.Option.the-variants.{Some};
 use std::fmt;
 
@@ -59,28 +59,6 @@ impl Finding {
             Finding::Held(sides) => sides,
             Finding::Broken(sides) => sides,
             Finding::NotApplicable => Sides { left: 0, right: 0 },
-        }
-    }
-}
-
-impl Verdict {
-    // The number of the article that the verdict names; 0 where it names none.
-    pub fn article(self) -> u32
-        ensures article_of_the_verdict { λ r. ⌜ r ≡ article-of self ⌝ }
-    {
-        match self {
-            Verdict::Certificate => 0,
-            Verdict::Breaks(article, _) => article,
-        }
-    }
-
-    // The sides of the article that the verdict names; 0 and 0 where it names none.
-    pub fn sides(self) -> Sides
-        ensures sides_of_the_verdict { λ r. ⌜ r ≡ verdict-sides self ⌝ }
-    {
-        match self {
-            Verdict::Certificate => Sides { left: 0, right: 0 },
-            Verdict::Breaks(_, sides) => sides,
         }
     }
 }

@@ -9,7 +9,6 @@ use books::book::Book;
 use members::areas::GREATEST_ZONE;
 use members::areas::area_of;
 use members::areas::product;
-use members::areas::smaller;
 use members::member::Column;
 use members::member::ColumnMember;
 use sheets::sheet::Bars;
@@ -78,7 +77,7 @@ fn confined_by_side(column: &ColumnSheet) -> Finding
     ensures confined_spacing_against_the_smaller_side { λ r. ⌜ r ≡ confined-by-side (now (column .entry)) ⌝ }
 {
     let sizes = sizes(column);
-    Finding::at_most(2 * sizes.confined, smaller(sizes.width, sizes.height))
+    Finding::at_most(2 * sizes.confined, sizes.width.min(sizes.height))
 }
 
 fn confined_by_diameter(column: &ColumnSheet) -> Finding
@@ -104,7 +103,7 @@ fn normal_by_side(column: &ColumnSheet) -> Finding
     let sizes = sizes(column);
     Finding::at_most(
         1_000 * sizes.normal,
-        product::<MOST_SCALED_ZONE, MOST_SIDE>(6 * sizes.zone, smaller(sizes.width, sizes.height)),
+        product::<MOST_SCALED_ZONE, MOST_SIDE>(6 * sizes.zone, sizes.width.min(sizes.height)),
     )
 }
 

@@ -1,6 +1,6 @@
 // The areas of bars, the roots of concrete types, and products that keep within bounds.
 ghost use mathlib.Core.Path.{_≡_};
-ghost use Prim.Native.Nat.{_*_, _%_, _^_, _≤_, _<_, max, min};
+ghost use Prim.Native.Nat.{_*_, _%_, _^_, _≤_, _<_};
 ghost use Rattle.tables.specs.Materials.{lookup, bars as bar-table, roots as root-table};
 ghost use Rattle.members.specs.Areas.{area, greatest-area, area-of-bars, root-of, greatest-root};
 use sheets::sheet::Bars;
@@ -75,18 +75,4 @@ pub fn product<const LEFT: u64, const RIGHT: u64>(left: u64, right: u64) -> u64
     ensures exact_within_the_bounds { λ r. ⌜ (left ≤ LEFT → right ≤ RIGHT → LEFT * RIGHT < 2 ^ 64 → (r ≡ left * right) × (r ≤ LEFT * RIGHT)) ⌝ }
 {
     left.wrapping_mul(right)
-}
-
-// The greater of two numbers.
-pub fn greater(one: u64, other: u64) -> u64
-    ensures greater_of_the_two { λ r. ⌜ r ≡ max one other ⌝ }
-{
-    if one >= other { one } else { other }
-}
-
-// The smaller of two numbers.
-pub fn smaller(one: u64, other: u64) -> u64
-    ensures smaller_of_the_two { λ r. ⌜ r ≡ min one other ⌝ }
-{
-    if one <= other { one } else { other }
 }

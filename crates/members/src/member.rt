@@ -1,12 +1,16 @@
 // The members that the books judge: which are lawful, and what each measures.
-ghost use Rattle.members.specs.Members.{lawful-wall};
-ghost use Rattle.sheets.specs.Sheets.{lawful-beam, lawful-column};
-ghost use Rattle.members.specs.Members.{beam-measure, column-measure, wall-measure};
+ghost use mathlib.Core.Path.{_≡_};
+ghost use Rattle.sheets.specs.Sheets.{lawful-beam, lawful-column, lawful-wall-sheet};
+ghost use Rattle.members.specs.Members.{beam-measure, column-measure, lawful-wall, wall-measure};
 use books::book::Member;
+use sheets::limits::BEAM_LIMITS;
+use sheets::limits::COLUMN_LIMITS;
+use sheets::limits::WALL_LIMITS;
 use sheets::sheet::BeamSheet;
 use sheets::sheet::ColumnSheet;
 use sheets::sheet::WallSheet;
 use tables::codes::Quantity;
+use tables::limits::admits_all;
 
 // A beam, by its sheet.
 #[derive(Clone, Copy)]
@@ -36,7 +40,7 @@ pub impl Member for Beam as BeamMember {
     ghost measure = { λ m. beam-measure (m .sheet) };
 
     fn is_lawful(&self) -> bool {
-        BeamSheet::is_lawful(&self.sheet)
+        lawful_beam(&self.sheet)
     }
 
     fn quantity(&self, quantity: Quantity) -> Option<u32> {
@@ -54,16 +58,12 @@ pub impl Member for Column as ColumnMember {
     ghost measure = { λ m. column-measure (m .sheet) };
 
     fn is_lawful(&self) -> bool {
-        ColumnSheet::is_lawful(&self.sheet)
+        lawful_column(&self.sheet)
     }
 
     fn quantity(&self, quantity: Quantity) -> Option<u32> {
         match quantity {
-            Quantity::Thickness => Some(if self.sheet.width <= self.sheet.height {
-                self.sheet.width
-            } else {
-                self.sheet.height
-            }),
+            Quantity::Thickness => Some(self.sheet.width.min(self.sheet.height)),
             Quantity::TieSpacing => Some(self.sheet.confined_spacing),
             Quantity::Storey => None,
         }
@@ -78,9 +78,7 @@ pub impl Member for Wall as WallMember {
     fn is_lawful(&self) -> bool {
         let carried = u64::from(self.carried);
         let shear = u64::from(self.sheet.shear);
-        WallSheet::is_lawful(&self.sheet)
-            && 7 * shear <= 10 * carried
-            && self.carried <= MOST_CARRIED
+        lawful_wall_sheet(&self.sheet) && 7 * shear <= 10 * carried && self.carried <= MOST_CARRIED
     }
 
     fn quantity(&self, quantity: Quantity) -> Option<u32> {
@@ -90,4 +88,23 @@ pub impl Member for Wall as WallMember {
             Quantity::Storey => Some(self.sheet.storey),
         }
     }
+}
+
+// Whether each number of the sheet keeps its limit.
+fn lawful_beam(sheet: &BeamSheet) -> bool
+    ensures decides_lawful { λ r. ⌜ r ≡ lawful-beam (now (sheet .entry)) ⌝ }
+{
+    admits_all(&BEAM_LIMITS, &sheet.numbers())
+}
+
+fn lawful_column(sheet: &ColumnSheet) -> bool
+    ensures decides_lawful { λ r. ⌜ r ≡ lawful-column (now (sheet .entry)) ⌝ }
+{
+    admits_all(&COLUMN_LIMITS, &sheet.numbers())
+}
+
+fn lawful_wall_sheet(sheet: &WallSheet) -> bool
+    ensures decides_lawful { λ r. ⌜ r ≡ lawful-wall-sheet (now (sheet .entry)) ⌝ }
+{
+    admits_all(&WALL_LIMITS, &sheet.numbers())
 }

@@ -65,13 +65,13 @@ module _ (entry ns : List ℕ) (i : ℕ) (within : i < length ns) (room : 4 ≤ 
       ∙ ap (λ xs. xs ++ drop (4 + 7 * (i + 1)) entry) (append-assoc (take 4 entry) (number-fields 0 (take i ns)) new ∙ ap (λ xs. take 4 entry ++ xs) (sym fields-more))
 
 -- the kind's field put first, then the numbers: the message, and beyond it what was there
-pub message-put : (kind : Kind) (ns entry headed after : List ℕ) (k : ℕ) → k ≡ kind-number kind → headed ≡ 1 ∷ 0 ∷ 1 ∷ k ∷ drop 4 entry → after ≡ (take 4 headed ++ number-fields 0 ns) ++ drop (4 + 7 * length ns) headed → after ≡ message-of kind ns ++ drop (length (message-of kind ns)) entry
-message-put kind ns entry headed after k is head put =
+pub message-put : (kind : Kind) (ns entry bytes headed after : List ℕ) → bytes ≡ field 1 (kind-number kind ∷ []) → headed ≡ bytes ++ drop (0 + length bytes) entry → after ≡ (take 4 headed ++ number-fields 0 ns) ++ drop (4 + 7 * length ns) headed → after ≡ message-of kind ns ++ drop (length (message-of kind ns)) entry
+message-put kind ns entry bytes headed after is first put =
+    let head : headed ≡ 1 ∷ 0 ∷ 1 ∷ kind-number kind ∷ drop 4 entry = first ∙ ap (λ xs. xs ++ drop (0 + length xs) entry) is in
     let size : 4 + 7 * length ns ≡ length (message-of kind ns) = sym (length-message kind ns) in
     let rest : drop (4 + 7 * length ns) headed ≡ drop (length (message-of kind ns)) entry = sym (drop-drop (7 * length ns) 4 headed) ∙ ap (λ xs. drop (7 * length ns) (drop 4 xs)) head ∙ drop-drop (7 * length ns) 4 entry ∙ ap (λ n. drop n entry) size in
     put
     ∙ ap (λ xs. (take 4 xs ++ number-fields 0 ns) ++ drop (4 + 7 * length ns) headed) head
-    ∙ ap (λ b. (1 ∷ 0 ∷ 1 ∷ b ∷ number-fields 0 ns) ++ drop (4 + 7 * length ns) headed) is
     ∙ ap (λ xs. message-of kind ns ++ xs) rest
 
 -- a buffer that has room takes the message

@@ -1,7 +1,7 @@
 // Messages: a run of fields, each a one-byte tag, a two-byte length and that many bytes, high byte first. The first
 // field, tag 1, has one byte, the kind; the sheet's numbers follow in order, four bytes each, tags 16, 17 and so on.
 ghost use mathlib.Core.Bool.{true};
-ghost use mathlib.Core.List.{_++_};
+ghost use mathlib.Core.List.{[], _∷_, _++_};
 ghost use mathlib.Core.Path.{_≡_};
 ghost use Prim.Native.Nat.{_+_, _*_, _≤_};
 ghost use lib.ListN.{length, take, drop};
@@ -9,8 +9,9 @@ ghost use Rattle.std.specs.Results.{Cases};
 ghost use Rattle.std.specs.Vec.{made};
 ghost use Rattle.std.specs.declared.result.Result.the-variants.{Ok, Err};
 ghost use Rattle.sheets.specs.declared.sheet.Sheet.{Sheet};
+ghost use Rattle.tables.specs.Codes.{kind-number};
 ghost use Rattle.messages.specs.Faulty.{FaultAt};
-ghost use Rattle.messages.specs.Messages.{cut, body-due, one-byte, four-byte, kind-due, number-due, numbers-due, ended, size-due, sheet-due, decoded, number-fields, message-of, message, put, put-length, lawful-sheet, Canonical, ReadsBack};
+ghost use Rattle.messages.specs.Messages.{field, four-bytes, cut, body-due, one-byte, four-byte, kind-due, number-due, numbers-due, ended, size-due, sheet-due, decoded, number-fields, message-of, message, put, put-length, lawful-sheet, Canonical, ReadsBack};
 use sheets::faults::JobFault;
 use sheets::faults::MessageFault;
 use sheets::faults::SheetFault;
@@ -206,6 +207,30 @@ fn put_at(buffer: &mut [u8], at: usize, bytes: &[u8])
     buffer[at..at + bytes.len()].copy_from_slice(bytes);
 }
 
+// The field of a kind.
+fn kind_field(kind: Kind) -> [u8; 4]
+    ensures field_of_the_kind { λ r. ⌜ r ≡ field 1 (kind-number kind ∷ []) ⌝ }
+{
+    [1, 0, 1, kind.number() as u8]
+}
+
+// The field of number i of a sheet.
+fn number_field(i: usize, number: u32) -> [u8; 7]
+    requires tag_fits_a_byte { ⌜ i ≤ 200 ⌝ }
+    ensures field_of_the_number { λ r. ⌜ r ≡ field (16 + i) (four-bytes number) ⌝ }
+{
+    let [a, b, c, d] = number.to_be_bytes();
+    [16 + i as u8, 0, 4, a, b, c, d]
+}
+
+// How long the message of so many numbers is.
+fn message_length(numbers: usize) -> usize
+    requires tags_fit_a_byte { ⌜ numbers ≤ 200 ⌝ }
+    ensures four_and_seven_for_each { λ r. ⌜ r ≡ 4 + 7 * numbers ⌝ }
+{
+    4 + 7 * numbers
+}
+
 // Writes the fields of a sheet's numbers, in order, after the four bytes of the kind's field.
 fn write_fields<const N: usize>(numbers: &[u32; N], buffer: &mut [u8])
     requires tags_fit_a_byte { ⌜ length (now numbers) ≤ 200 ⌝ }
@@ -214,8 +239,8 @@ fn write_fields<const N: usize>(numbers: &[u32; N], buffer: &mut [u8])
 {
     let row: &[u32] = numbers;
     for i in 0..row.len() {
-        let [a, b, c, d] = row[i].to_be_bytes();
-        put_at(buffer, 4 + 7 * i, &[16 + i as u8, 0, 4, a, b, c, d]);
+        let bytes = number_field(i, row[i]);
+        put_at(buffer, 4 + 7 * i, &bytes);
     }
 }
 
@@ -230,11 +255,12 @@ fn write_message<const N: usize>(
     ensures message_then_the_rest_untouched { λ _. ⌜ now (buffer .exit) ≡ put (message-of kind (now (numbers .entry))) (now (buffer .entry)) ⌝ }
 {
     let row: &[u32] = numbers;
-    let length = 4 + 7 * row.len();
+    let length = message_length(row.len());
     if buffer.len() < length {
         return Err(JobFault::Argument);
     }
-    put_at(buffer, 0, &[1, 0, 1, kind.number() as u8]);
+    let bytes = kind_field(kind);
+    put_at(buffer, 0, &bytes);
     write_fields(numbers, buffer);
     Ok(length)
 }

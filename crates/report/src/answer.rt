@@ -48,7 +48,7 @@ fn answer_to(message: &[u8]) -> Result<Verdict, JobFault>
 }
 
 // The verdict of the book of its kind on the member of this sheet; a wall carries its sheet's shear.
-pub fn verdict_on(sheet: Sheet) -> Result<Verdict, JobFault>
+fn verdict_on(sheet: Sheet) -> Result<Verdict, JobFault>
     ensures verdict_of_its_book { λ r. ⌜ r ≡ sheet-verdict sheet ⌝ }
     ensures says_what_the_sheet_earns { λ r. ⌜ SheetTold sheet r ⌝ }
 {

@@ -78,7 +78,7 @@ pub enum JobFault {
 }
 
 impl MessageFault {
-    pub fn refusal(self) -> Refusal
+    fn refusal(self) -> Refusal
         ensures number_layer_and_place { λ r. ⌜ r ≡ message-refusal self ⌝ }
     {
         match self {
@@ -91,7 +91,7 @@ impl MessageFault {
 }
 
 impl SheetFault {
-    pub fn refusal(self) -> Refusal
+    fn refusal(self) -> Refusal
         ensures number_layer_and_place { λ r. ⌜ r ≡ sheet-refusal self ⌝ }
     {
         match self {
@@ -164,15 +164,15 @@ fn state(number: u32) -> Refusal
 pub impl From<MessageFault> for SheetFault as SheetFromMessage {
     ghost converts = { λ fault r. r ≡ Message fault };
 
-    fn from(fault: MessageFault) -> SheetFault {
-        SheetFault::Message(fault)
+    fn from(below: MessageFault) -> SheetFault {
+        SheetFault::Message(below)
     }
 }
 
 pub impl From<SheetFault> for JobFault as JobFromSheet {
     ghost converts = { λ fault r. r ≡ Sheet fault };
 
-    fn from(fault: SheetFault) -> JobFault {
-        JobFault::Sheet(fault)
+    fn from(below: SheetFault) -> JobFault {
+        JobFault::Sheet(below)
     }
 }

@@ -1,10 +1,6 @@
 // The three sheets, by name, and the same numbers in the order of the message.
 ghost use mathlib.Core.Path.{_≡_};
-ghost use Rattle.sheets.specs.Sheets.{beam-of, column-of, wall-of, beam-numbers, column-numbers, wall-numbers, lawful-beam, lawful-column, lawful-wall-sheet};
-use crate::limits::BEAM_LIMITS;
-use crate::limits::COLUMN_LIMITS;
-use crate::limits::WALL_LIMITS;
-use tables::limits::admits_all;
+ghost use Rattle.sheets.specs.Sheets.{beam-of, column-of, wall-of, beam-numbers, column-numbers, wall-numbers};
 
 // What every sheet begins with: the member's mark, the zone factor in hundredths, the concrete type and the
 // concrete's design strength in tenths of N/mm².
@@ -161,12 +157,6 @@ impl BeamSheet {
             self.face.diameter,
         ]
     }
-
-    pub fn is_lawful(&self) -> bool
-        ensures decides_lawful { λ r. ⌜ r ≡ lawful-beam (now (self .entry)) ⌝ }
-    {
-        admits_all(&BEAM_LIMITS, &self.numbers())
-    }
 }
 
 impl ColumnSheet {
@@ -220,12 +210,6 @@ impl ColumnSheet {
             self.confined_spacing,
             self.normal_spacing,
         ]
-    }
-
-    pub fn is_lawful(&self) -> bool
-        ensures decides_lawful { λ r. ⌜ r ≡ lawful-column (now (self .entry)) ⌝ }
-    {
-        admits_all(&COLUMN_LIMITS, &self.numbers())
     }
 }
 
@@ -312,11 +296,5 @@ impl WallSheet {
             self.horizontal.diameter,
             self.horizontal.spacing,
         ]
-    }
-
-    pub fn is_lawful(&self) -> bool
-        ensures decides_lawful { λ r. ⌜ r ≡ lawful-wall-sheet (now (self .entry)) ⌝ }
-    {
-        admits_all(&WALL_LIMITS, &self.numbers())
     }
 }

@@ -1,7 +1,7 @@
 // The closed lists that stand for a number in a message or an argument. `Rattle.tables.specs.Codes` gives the
 // number of each case.
 ghost use mathlib.Core.Path.{_≡_};
-ghost use Rattle.tables.specs.Codes.{kind-number, kind-of, analysis-number, analysis-of, quantity-number, quantity-of, sense-number, sense-of};
+ghost use Rattle.tables.specs.Codes.{kind-number, kind-of, analysis-of, quantity-of, sense-of};
 
 // The kind of a member.
 #[derive(Clone, Copy)]
@@ -42,15 +42,6 @@ pub enum Analysis {
 }
 
 impl Analysis {
-    pub fn number(self) -> u32
-        ensures number_of_the_analysis { λ r. ⌜ r ≡ analysis-number self ⌝ }
-    {
-        match self {
-            Analysis::Static => 1,
-            Analysis::Dynamic => 2,
-        }
-    }
-
     pub fn of_number(number: u32) -> Option<Analysis>
         ensures analysis_of_the_number { λ r. ⌜ r ≡ analysis-of number ⌝ }
     {
@@ -71,16 +62,6 @@ pub enum Quantity {
 }
 
 impl Quantity {
-    pub fn number(self) -> u32
-        ensures number_of_the_quantity { λ r. ⌜ r ≡ quantity-number self ⌝ }
-    {
-        match self {
-            Quantity::Thickness => 1,
-            Quantity::TieSpacing => 2,
-            Quantity::Storey => 3,
-        }
-    }
-
     pub fn of_number(number: u32) -> Option<Quantity>
         ensures quantity_of_the_number { λ r. ⌜ r ≡ quantity-of number ⌝ }
     {
@@ -101,15 +82,6 @@ pub enum Sense {
 }
 
 impl Sense {
-    pub fn number(self) -> u32
-        ensures number_of_the_sense { λ r. ⌜ r ≡ sense-number self ⌝ }
-    {
-        match self {
-            Sense::AtLeast => 1,
-            Sense::AtMost => 2,
-        }
-    }
-
     pub fn of_number(number: u32) -> Option<Sense>
         ensures sense_of_the_number { λ r. ⌜ r ≡ sense-of number ⌝ }
     {

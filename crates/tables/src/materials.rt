@@ -102,7 +102,7 @@ fn is_listed(list: &[u32], number: u32) -> bool
 }
 
 // Whether a zone has this factor.
-pub fn is_zone(factor: u32) -> bool
+pub(crate) fn is_zone(factor: u32) -> bool
     ensures tells_the_zones { λ r. ⌜ r ≡ listed zones factor ⌝ }
 {
     is_listed(&ZONES, factor)

@@ -91,7 +91,7 @@ most-horizontal-spacing p = at-most (p .«horizontal_spacing») 200
 
 -- 6.3.4.1: the factor on the shear, in thousandths: it grows with the storeys under static analysis
 abbrev pub factor-by : Option Analysis → ℕ → ℕ
-factor-by (Some Static) storeys = min 2250 (1250 + 50 * (storeys - 1))
+factor-by (Some Static) storeys = min (1250 + 50 * (storeys - 1)) 2250
 factor-by (Some Dynamic) storeys = 1250
 factor-by None storeys = 1250
 

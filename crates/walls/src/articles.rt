@@ -10,7 +10,6 @@ use books::book::Book;
 use members::areas::GREATEST_AREA;
 use members::areas::area_of;
 use members::areas::product;
-use members::areas::smaller;
 use members::member::Wall;
 use members::member::WallMember;
 use sheets::sheet::Bars;
@@ -302,7 +301,7 @@ fn factor_by(analysis: Option<Analysis>, storeys: u64) -> u64
     ensures at_most_2250 { λ r. ⌜ r ≤ 2250 ⌝ }
 {
     match analysis {
-        Some(Analysis::Static) => smaller(2_250, 1_250 + 50 * (storeys - 1)),
+        Some(Analysis::Static) => (1_250 + 50 * (storeys - 1)).min(2_250),
         Some(Analysis::Dynamic) => 1_250,
         None => 1_250,
     }

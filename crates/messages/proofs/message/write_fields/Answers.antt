@@ -1,8 +1,7 @@
-use mathlib.Core.Path.{_≡_, ap, _∙_}
-use mathlib.Core.List.{[], _∷_}
-use Prim.Native.Nat.{_+_, _≤_}
+use mathlib.Core.Path.{_≡_, _∙_}
+use Prim.Native.Nat.{_≤_}
 use native.Mathlib.Omega.{arith}
-use lib.ListN.{length, getD}
+use lib.ListN.{length}
 use Rattle.messages.proofs.Written.{filled-none, filled-all, filled-more}
 use Rattle.messages.proofs.message.write_fields.Needs as need
 
@@ -14,7 +13,7 @@ loop-i-again g c =
     let i = c .loop-i .i in
     let room : 4 ≤ length (c .args .buffer .now) = omega arith in
     filled-more (c .args .buffer .now) (c .args .numbers .now) i (c .loop-i-test .taken) room (c .loop-i .buffer) _ _ (c .loop-i .inv)
-    (ap (λ r. (16 + i) ∷ 0 ∷ 4 ∷ getD r 0 0 ∷ getD r 1 0 ∷ getD r 2 0 ∷ getD r 3 0 ∷ []) (c .to-be-bytes .ensures))
+    (c .number-field-bytes .ensures .field-of-the-number)
     (c .put-at .ensures .the-rest-is-untouched)
 
 pub returns : need.returns

@@ -22,6 +22,6 @@ returns g c =
     let size = length-message (c .args .kind) (c .args .numbers .now) in
     let fits : length bytes ≤ length (c .args .buffer .now) = omega (arith, size) in
     record {
-      length-or-too-short = ap Ok (sym size) ∙ sym (put-length-fits bytes _ fits);
-      message-then-the-rest-untouched = message-put _ _ (c .args .buffer .now) _ _ _ (c .number .ensures .number-of-the-kind) (c .put-at .ensures .the-rest-is-untouched) (c .write-fields .ensures .fields-between-what-was-there) ∙ sym (put-fits bytes _ fits);
+      length-or-too-short = ap Ok (c .message-length-length .ensures .four-and-seven-for-each ∙ sym size) ∙ sym (put-length-fits bytes _ fits);
+      message-then-the-rest-untouched = message-put _ _ (c .args .buffer .now) _ _ _ (c .kind-field-bytes .ensures .field-of-the-kind) (c .put-at .ensures .the-rest-is-untouched) (c .write-fields .ensures .fields-between-what-was-there) ∙ sym (put-fits bytes _ fits);
     }

@@ -1,7 +1,7 @@
 use mathlib.Core.Path.{ap, _∙_}
 use Rattle.tables.specs.Limits.{admitted}
 use Rattle.sheets.specs.Limits.{wall-limits}
-use Rattle.sheets.proofs.sheet.WallSheet.is_lawful.Needs as need
+use Rattle.members.proofs.member.lawful_wall_sheet.Needs as need
 
 pub returns : need.returns
 returns c = record {
