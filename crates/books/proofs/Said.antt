@@ -20,6 +20,16 @@ answered true true v w e = (refl, refl, cc)
 answered true false v w e = absurd (let z : _≡_ {A = ℕ} 0 1 = cc in omega arith)
 answered false t v w e = absurd (let z : _≡_ {A = ℕ} 0 1 = cc in omega arith)
 
+untaken-only : (l t : Bool) (v : Verdict) → _≡_ {A = Result Verdict JobFault} (cond l (cond t (Ok v) (Err NotTaken)) (Err Unlawful)) (Err NotTaken) → (l ≡ true) × (t ≡ false)
+untaken-only true true v e = absurd (let z : _≡_ {A = ℕ} 0 1 = cc in omega arith)
+untaken-only true false v e = (refl, refl)
+untaken-only false t v e = absurd (let z : _≡_ {A = ℕ} 0 1 = cc in omega arith)
+
+unlawful-only : (l t : Bool) (v : Verdict) → _≡_ {A = Result Verdict JobFault} (cond l (cond t (Ok v) (Err NotTaken)) (Err Unlawful)) (Err Unlawful) → l ≡ false
+unlawful-only true true v e = absurd (let z : _≡_ {A = ℕ} 0 1 = cc in omega arith)
+unlawful-only true false v e = absurd (let z : _≡_ {A = ℕ} 0 1 = cc in omega arith)
+unlawful-only false t v e = refl
+
 asked : (l t : Bool) (v : Verdict) → l ≡ true → t ≡ true → _≡_ {A = Result Verdict JobFault} (cond l (cond t (Ok v) (Err NotTaken)) (Err Unlawful)) (Ok v)
 asked l t v el et = ap (λ x. cond x (cond t (Ok v) (Err NotTaken)) (Err Unlawful)) el ∙ ap (λ x. cond x (Ok v) (Err NotTaken)) et
 
@@ -50,9 +60,11 @@ module _ {M : Type 0} (lawful : M → Bool) (book : Meaning M) (m : M) where
           broken = at .2;
           clear = λ j t low high is. none j t high (low, omega (arith, at .1), is);
         }));
-    untaken = λ both.
-        ap (λ x. cond x (cond (book .takes m) (Ok found) (Err NotTaken)) (Err Unlawful)) (both .0) ∙ ap (λ x. cond x (Ok found) (Err NotTaken)) (both .1);
-    unlawful = λ law. ap (λ x. cond x (cond (book .takes m) (Ok found) (Err NotTaken)) (Err Unlawful)) law;
+    untaken = λ e. untaken-only (lawful m) (book .takes m) found e;
+    refuses-untaken = λ law take.
+        ap (λ x. cond x (cond (book .takes m) (Ok found) (Err NotTaken)) (Err Unlawful)) law ∙ ap (λ x. cond x (Ok found) (Err NotTaken)) take;
+    unlawful = λ e. unlawful-only (lawful m) (book .takes m) found e;
+    refuses-unlawful = λ law. ap (λ x. cond x (cond (book .takes m) (Ok found) (Err NotTaken)) (Err Unlawful)) law;
   }
 
   pub says-of : (r : Result Verdict JobFault) → r ≡ verdict-of lawful book m → Says lawful book m r

@@ -37,11 +37,14 @@ abbrev pub NoneBrokenBelow : {M : Type 0} → Meaning M → M → ℕ → Type 0
 NoneBrokenBelow book m n = (k : ℕ) (s : Sides) → k < n → BrokenAt book m k s → ⊥
 
 -- what a verdict says: a certificate exactly when the member is lawful and taken and no article is broken; article n
--- with its sides exactly when it is lawful and taken, n is broken with these sides, and no lower one is broken
+-- with its sides exactly when it is lawful and taken, n is broken with these sides, and no lower one is broken; a
+-- refusal as not taken exactly when it is lawful and not taken, and as unlawful exactly when it is not lawful
 pub record Says {M : Type 0} (lawful : M → Bool) (book : Meaning M) (m : M) (r : Result Verdict JobFault) : Type 0 where
   pub certified : r ≡ Ok Certificate → (lawful m ≡ true) × (book .takes m ≡ true) × NoneBrokenBelow book m (book .count + 1)
   pub certifies : lawful m ≡ true → book .takes m ≡ true → NoneBrokenBelow book m (book .count + 1) → r ≡ Ok Certificate
   pub broken : (n : ℕ) (s : Sides) → r ≡ Ok (Breaks n s) → (lawful m ≡ true) × (book .takes m ≡ true) × BrokenAt book m n s × NoneBrokenBelow book m n
   pub breaks : (n : ℕ) (s : Sides) → lawful m ≡ true → book .takes m ≡ true → BrokenAt book m n s → NoneBrokenBelow book m n → r ≡ Ok (Breaks n s)
-  pub untaken : (lawful m ≡ true) × (book .takes m ≡ false) → r ≡ Err NotTaken
-  pub unlawful : lawful m ≡ false → r ≡ Err Unlawful
+  pub untaken : r ≡ Err NotTaken → (lawful m ≡ true) × (book .takes m ≡ false)
+  pub refuses-untaken : lawful m ≡ true → book .takes m ≡ false → r ≡ Err NotTaken
+  pub unlawful : r ≡ Err Unlawful → lawful m ≡ false
+  pub refuses-unlawful : lawful m ≡ false → r ≡ Err Unlawful

@@ -38,7 +38,7 @@ struct Field<'a> {
 fn cut_field<'a>(bytes: &'a [u8], at: usize) -> Result<Field<'a>, MessageFault>
     ensures cuts_the_first_field { λ r. ⌜ Cases r (λ f. cut at (now (bytes .entry)) ≡ Ok (record { tag = f .tag; body = now (f .body); rest = now (f .rest) })) (λ e. cut at (now (bytes .entry)) ≡ Err e) ⌝ }
 {
-    let [tag, hi, lo, after @ ..] = bytes else {
+    let [tag, hi, lo, rest @ ..] = bytes else {
         return Err(if bytes.is_empty() {
             MessageFault::NotDue(at)
         } else {
@@ -46,14 +46,14 @@ fn cut_field<'a>(bytes: &'a [u8], at: usize) -> Result<Field<'a>, MessageFault>
         });
     };
     let length = usize::from(u16::from_be_bytes([*hi, *lo]));
-    if after.len() < length {
+    if rest.len() < length {
         return Err(MessageFault::CutShort(at));
     }
-    let (body, rest) = after.split_at(length);
+    let (body, after) = rest.split_at(length);
     Ok(Field {
         tag: *tag,
         body,
-        rest,
+        rest: after,
     })
 }
 

@@ -1,6 +1,5 @@
 // The constant tables: bars by diameter, concrete types by number, zone factors.
 ghost use mathlib.Core.Path.{_≡_};
-ghost use Prim.Native.Nat.{_+_, _*_, _<_, _≤_};
 ghost use Rattle.std.specs.Options.{Cases as BySome};
 ghost use Rattle.tables.specs.Materials.{lookup, listed, bars, roots, zones, RootRoundedDown};
 
@@ -76,7 +75,6 @@ fn looked_up(table: &[Entry], key: u32) -> Option<u32>
 // The area of one bar of this diameter, or none where no bar has it.
 pub fn bar_area(diameter: u32) -> Option<u32>
     ensures area_of_the_table { λ r. ⌜ r ≡ lookup bars diameter ⌝ }
-    ensures area_at_most_the_greatest { λ r. ⌜ BySome r (Unit {0}) (λ a. a ≤ 491) ⌝ }
 {
     looked_up(&BARS, diameter)
 }

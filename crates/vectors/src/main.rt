@@ -1,5 +1,6 @@
 // Runs figures from another tool: reads one message a line, in hexadecimal, and prints for each the line that answers
-// it and, where it carries a sheet, what each article from 0 to one past the count finds on the member.
+// it and, where it carries a sheet, what each article from 0 to one past the count finds on the member. A sheet that is
+// not written back as the message that it came from gets a line of its own, which no stored output has.
 ghost use mathlib.Core.Bool.{true};
 ghost use mathlib.Core.Path.{_≡_};
 use beams::articles::BeamBook;
@@ -16,6 +17,7 @@ use members::member::ColumnMember;
 use members::member::Wall;
 use members::member::WallMember;
 use messages::message::decode;
+use messages::message::encode;
 use report::answer::reply;
 use report::line::LineDisplay;
 use sheets::sheet::Sheet;
@@ -73,10 +75,25 @@ fn print_findings<M: Member, B: Book<M>>(rt: &impl Print, book: &B, member: &M) 
     println!(rt, "")
 }
 
+// Whether the sheet's message, written into a buffer that is longer, is these bytes.
+fn is_message_of(sheet: &Sheet, bytes: &[u8]) -> bool {
+    let mut buffer = [0xaau8; 300];
+    match encode(sheet, &mut buffer) {
+        Ok(size) => size <= 256 && &buffer[0..size] == bytes && buffer[size] == 0xaa,
+        Err(_) => false,
+    }
+}
+
 fn print_answer(rt: &impl Print, message: &[u8]) -> io::Result<()> {
     let line = reply(message);
     println!(rt, "{line}")?;
-    match decode(message) {
+    let read = decode(message);
+    if let Ok(sheet) = &read {
+        if !is_message_of(sheet, message) {
+            println!(rt, "written otherwise")?;
+        }
+    }
+    match read {
         Ok(Sheet::Beam(sheet)) => print_findings(rt, &BeamBook, &Beam { sheet }),
         Ok(Sheet::Column(sheet)) => print_findings(rt, &ColumnBook, &Column { sheet }),
         Ok(Sheet::Wall(sheet)) => {
