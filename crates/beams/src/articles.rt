@@ -51,6 +51,7 @@ pub impl Book<Beam> for BeamBook as BeamBookArticles {
     }
 }
 
+// 5.6.1.3.2: the smaller area is not too small for the concrete.
 fn least_smaller_area(beam: &BeamSheet) -> Finding
     requires lawful_member { ⌜ lawful-beam (now beam) ≡ true ⌝ }
     ensures smaller_area_against_the_concrete { λ r. ⌜ r ≡ least-smaller-area (now (beam .entry)) ⌝ }
@@ -62,6 +63,7 @@ fn least_smaller_area(beam: &BeamSheet) -> Finding
     )
 }
 
+// 5.6.1.3.2: the greater area is at most a fortieth of the section.
 fn most_greater_area(beam: &BeamSheet) -> Finding
     requires lawful_member { ⌜ lawful-beam (now beam) ≡ true ⌝ }
     ensures greater_area_against_the_section { λ r. ⌜ r ≡ most-greater-area (now (beam .entry)) ⌝ }
@@ -70,6 +72,7 @@ fn most_greater_area(beam: &BeamSheet) -> Finding
     Finding::at_most(40 * sizes.top.max(sizes.bottom), sizes.width * sizes.depth)
 }
 
+// 5.6.1.3.2: the greater area is not too great for the smaller one and the concrete.
 fn most_area_for_concrete(beam: &BeamSheet) -> Finding
     requires lawful_member { ⌜ lawful-beam (now beam) ≡ true ⌝ }
     ensures greater_area_against_smaller_and_concrete { λ r. ⌜ r ≡ most-area-for-concrete (now (beam .entry)) ⌝ }
@@ -86,6 +89,7 @@ fn most_area_for_concrete(beam: &BeamSheet) -> Finding
     )
 }
 
+// 5.6.1.3.3: the bottom area is a share of the top area, by zone.
 fn least_bottom_area(beam: &BeamSheet) -> Finding
     requires lawful_member { ⌜ lawful-beam (now beam) ≡ true ⌝ }
     ensures bottom_area_against_the_top { λ r. ⌜ r ≡ least-bottom-area (now (beam .entry)) ⌝ }
@@ -97,6 +101,7 @@ fn least_bottom_area(beam: &BeamSheet) -> Finding
     )
 }
 
+// 5.5.5: the stirrups have the least area for their spacing.
 fn least_stirrup_area(beam: &BeamSheet) -> Finding
     requires lawful_member { ⌜ lawful-beam (now beam) ≡ true ⌝ }
     ensures stirrup_area_against_the_spacing { λ r. ⌜ r ≡ least-stirrup-area (now (beam .entry)) ⌝ }
@@ -105,6 +110,7 @@ fn least_stirrup_area(beam: &BeamSheet) -> Finding
     Finding::at_least(400 * sizes.stirrup, 56 * sizes.spacing)
 }
 
+// 5.5.5 with 5.6.1.2: the shear is at most what the section may take.
 fn most_shear(beam: &BeamSheet) -> Finding
     requires lawful_member { ⌜ lawful-beam (now beam) ≡ true ⌝ }
     ensures shear_against_what_is_borne { λ r. ⌜ r ≡ most-shear (now (beam .entry)) ⌝ }
@@ -113,6 +119,7 @@ fn most_shear(beam: &BeamSheet) -> Finding
     Finding::at_most(13_500_000 * sizes.shear, 95 * borne_shear(sizes))
 }
 
+// 5.6.1.5: under high shear the faces have a share of the greater area, by zone.
 fn least_face_area(beam: &BeamSheet) -> Finding
     requires lawful_member { ⌜ lawful-beam (now beam) ≡ true ⌝ }
     ensures face_area_under_high_shear { λ r. ⌜ r ≡ least-face-area (now (beam .entry)) ⌝ }

@@ -13,6 +13,13 @@ pub fn verdict<M: Member, B: Book<M>>(book: &B, member: &M) -> Result<Verdict, J
     ensures verdict_by_the_meaning { λ r. ⌜ r ≡ verdict-of (M·Member .lawful) (B·Book .meaning (now (book .entry))) (now (member .entry)) ⌝ }
     ensures certificate_or_lowest_broken { λ r. ⌜ Says (M·Member .lawful) (B·Book .meaning (now (book .entry))) (now (member .entry)) r ⌝ }
 {
+    lawful_and_taken(book, member)
+}
+
+// The verdict, after the tests that the member is lawful and that the book takes it.
+fn lawful_and_taken<M: Member, B: Book<M>>(book: &B, member: &M) -> Result<Verdict, JobFault>
+    ensures verdict_by_the_meaning { λ r. ⌜ r ≡ verdict-of (M·Member .lawful) (B·Book .meaning (now (book .entry))) (now (member .entry)) ⌝ }
+{
     if !member.is_lawful() {
         return Err(JobFault::Unlawful);
     }

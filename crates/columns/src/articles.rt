@@ -48,6 +48,7 @@ pub impl Book<Column> for ColumnBook as ColumnBookArticles {
     }
 }
 
+// 5.6.2.4.1: the bars are at least a hundredth of the section.
 fn least_bar_area(column: &ColumnSheet) -> Finding
     requires lawful_member { ⌜ lawful-column (now column) ≡ true ⌝ }
     ensures bar_area_at_least_a_share_of_the_section { λ r. ⌜ r ≡ least-bar-area (now (column .entry)) ⌝ }
@@ -56,6 +57,7 @@ fn least_bar_area(column: &ColumnSheet) -> Finding
     Finding::at_least(100 * sizes.bars, section(sizes))
 }
 
+// 5.6.2.4.1: the bars are at most six hundredths of the section.
 fn most_bar_area(column: &ColumnSheet) -> Finding
     requires lawful_member { ⌜ lawful-column (now column) ≡ true ⌝ }
     ensures bar_area_at_most_a_share_of_the_section { λ r. ⌜ r ≡ most-bar-area (now (column .entry)) ⌝ }
@@ -64,6 +66,7 @@ fn most_bar_area(column: &ColumnSheet) -> Finding
     Finding::at_most(100 * sizes.bars, 6 * section(sizes))
 }
 
+// 5.6.2.4.1: the bars of the tension face are at least four thousandths of the section.
 fn least_tension_area(column: &ColumnSheet) -> Finding
     requires lawful_member { ⌜ lawful-column (now column) ≡ true ⌝ }
     ensures tension_area_against_the_section { λ r. ⌜ r ≡ least-tension-area (now (column .entry)) ⌝ }
@@ -72,6 +75,7 @@ fn least_tension_area(column: &ColumnSheet) -> Finding
     Finding::at_least(1_000 * sizes.tension, 4 * section(sizes))
 }
 
+// 5.6.2.5.3: the confined spacing is at most half the smaller side.
 fn confined_by_side(column: &ColumnSheet) -> Finding
     requires lawful_member { ⌜ lawful-column (now column) ≡ true ⌝ }
     ensures confined_spacing_against_the_smaller_side { λ r. ⌜ r ≡ confined-by-side (now (column .entry)) ⌝ }
@@ -80,6 +84,7 @@ fn confined_by_side(column: &ColumnSheet) -> Finding
     Finding::at_most(2 * sizes.confined, sizes.width.min(sizes.height))
 }
 
+// 5.6.2.5.3: the confined spacing is at most nine bar diameters.
 fn confined_by_diameter(column: &ColumnSheet) -> Finding
     requires lawful_member { ⌜ lawful-column (now column) ≡ true ⌝ }
     ensures confined_spacing_against_the_diameter { λ r. ⌜ r ≡ confined-by-diameter (now (column .entry)) ⌝ }
@@ -88,6 +93,7 @@ fn confined_by_diameter(column: &ColumnSheet) -> Finding
     Finding::at_most(sizes.confined, 9 * sizes.diameter)
 }
 
+// 5.6.2.5.3: the confined spacing is at most 100 mm.
 fn most_confined_spacing(column: &ColumnSheet) -> Finding
     requires lawful_member { ⌜ lawful-column (now column) ≡ true ⌝ }
     ensures confined_spacing_against_its_most { λ r. ⌜ r ≡ most-confined-spacing (now (column .entry)) ⌝ }
@@ -96,6 +102,7 @@ fn most_confined_spacing(column: &ColumnSheet) -> Finding
     Finding::at_most(sizes.confined, 100)
 }
 
+// 5.6.2.6: the normal spacing is at most a share of the smaller side, by zone.
 fn normal_by_side(column: &ColumnSheet) -> Finding
     requires lawful_member { ⌜ lawful-column (now column) ≡ true ⌝ }
     ensures normal_spacing_against_the_smaller_side { λ r. ⌜ r ≡ normal-by-side (now (column .entry)) ⌝ }
@@ -107,6 +114,7 @@ fn normal_by_side(column: &ColumnSheet) -> Finding
     )
 }
 
+// 5.6.2.6: the normal spacing is at most 200 mm.
 fn most_normal_spacing(column: &ColumnSheet) -> Finding
     requires lawful_member { ⌜ lawful-column (now column) ≡ true ⌝ }
     ensures normal_spacing_against_its_most { λ r. ⌜ r ≡ most-normal-spacing (now (column .entry)) ⌝ }

@@ -1,4 +1,4 @@
--- Which walls are lawful, and what each kind of member measures. Assumes nothing.
+-- Which members are lawful, and what each kind of member measures. Assumes nothing.
 use mathlib.Core.Bool.{Bool, _&&_}
 use Prim.Native.Nat.{ℕ, _*_, min}
 use lib.Dec.{leb}
@@ -6,10 +6,19 @@ use Rattle.std.specs.declared.option.Option.{Option}
 use Rattle.std.specs.declared.option.Option.the-variants.{Some, None}
 use Rattle.tables.specs.declared.codes.Quantity.{Quantity}
 use Rattle.tables.specs.declared.codes.Quantity.the-variants.{Thickness, TieSpacing, Storey}
-use Rattle.sheets.specs.Sheets.{lawful-wall-sheet}
+use Rattle.sheets.specs.Sheets.{lawful-beam, lawful-column, lawful-wall-sheet}
 use Rattle.sheets.specs.declared.sheet.BeamSheet.{BeamSheet}
 use Rattle.sheets.specs.declared.sheet.ColumnSheet.{ColumnSheet}
+use Rattle.members.specs.declared.member.Beam.{Beam}
+use Rattle.members.specs.declared.member.Column.{Column}
 use Rattle.members.specs.declared.member.Wall.{Wall}
+
+-- a beam and a column are lawful when their sheets are
+abbrev pub lawful-beam-member : Beam → Bool
+lawful-beam-member b = lawful-beam (b .sheet)
+
+abbrev pub lawful-column-member : Column → Bool
+lawful-column-member c = lawful-column (c .sheet)
 
 -- a wall is lawful when its sheet is, and it carries at least seven tenths of its sheet's shear and at most 10,000,000 N
 abbrev pub lawful-wall : Wall → Bool

@@ -1,7 +1,7 @@
 // The members that the books judge: which are lawful, and what each measures.
 ghost use mathlib.Core.Path.{_≡_};
 ghost use Rattle.sheets.specs.Sheets.{lawful-beam, lawful-column, lawful-wall-sheet};
-ghost use Rattle.members.specs.Members.{beam-measure, column-measure, lawful-wall, wall-measure};
+ghost use Rattle.members.specs.Members.{beam-measure, column-measure, lawful-beam-member, lawful-column-member, lawful-wall, wall-measure};
 use books::book::Member;
 use sheets::limits::BEAM_LIMITS;
 use sheets::limits::COLUMN_LIMITS;
@@ -35,7 +35,7 @@ pub struct Wall {
 const MOST_CARRIED: u32 = 10_000_000;
 
 pub impl Member for Beam as BeamMember {
-    ghost lawful = { λ m. lawful-beam (m .sheet) };
+    ghost lawful = { lawful-beam-member };
 
     ghost measure = { λ m. beam-measure (m .sheet) };
 
@@ -53,7 +53,7 @@ pub impl Member for Beam as BeamMember {
 }
 
 pub impl Member for Column as ColumnMember {
-    ghost lawful = { λ m. lawful-column (m .sheet) };
+    ghost lawful = { lawful-column-member };
 
     ghost measure = { λ m. column-measure (m .sheet) };
 

@@ -1,30 +1,22 @@
 -- What a message is answered, and what that says in the subject's words. Assumes nothing.
 use mathlib.Core.Path.{_≡_}
-use mathlib.Core.Bool.{Bool}
+use mathlib.Core.List.{List}
+use Prim.Native.Nat.{ℕ}
 use Rattle.std.specs.declared.result.Result.{Result}
 use Rattle.std.specs.declared.result.Result.the-variants.{Ok, Err}
-use Rattle.sheets.specs.Sheets.{lawful-beam, lawful-column}
 use Rattle.sheets.specs.declared.faults.SheetFault.{SheetFault}
 use Rattle.sheets.specs.declared.faults.JobFault.{JobFault}
 use Rattle.sheets.specs.declared.faults.JobFault.the-variants as faults
 use Rattle.sheets.specs.declared.sheet.Sheet.{Sheet}
 use Rattle.sheets.specs.declared.sheet.Sheet.the-variants as sheets
+use Rattle.messages.specs.Faulty.{FaultAt}
+use Rattle.messages.specs.Messages.{Canonical}
 use Rattle.books.specs.Verdicts.{verdict-of, Says}
 use Rattle.books.specs.declared.answers.Verdict.{Verdict}
-use Rattle.members.specs.Members.{lawful-wall}
-use Rattle.members.specs.declared.member.Beam.{Beam}
-use Rattle.members.specs.declared.member.Column.{Column}
-use Rattle.members.specs.declared.member.Wall.{Wall}
+use Rattle.members.specs.Members.{lawful-beam-member, lawful-column-member, lawful-wall}
 use Rattle.beams.specs.Articles.{beam-meaning}
 use Rattle.columns.specs.Articles.{column-meaning}
 use Rattle.walls.specs.Articles.{wall-meaning}
-
--- a beam and a column are lawful by their sheets
-abbrev pub lawful-beam-member : Beam → Bool
-lawful-beam-member b = lawful-beam (b .sheet)
-
-abbrev pub lawful-column-member : Column → Bool
-lawful-column-member c = lawful-column (c .sheet)
 
 -- the verdict of the book of its kind on the member of a sheet; a wall carries its sheet's shear
 abbrev pub sheet-verdict : Sheet → Result Verdict JobFault
@@ -44,7 +36,8 @@ abbrev pub answered : Result Sheet SheetFault → Result Verdict JobFault
 answered (Err fault) = Err (faults.Sheet fault)
 answered (Ok sheet) = sheet-verdict sheet
 
--- what that answer says
-abbrev pub Told : Result Sheet SheetFault → Result Verdict JobFault → Type 0
-Told (Err fault) r = r ≡ Err (faults.Sheet fault)
-Told (Ok sheet) r = SheetTold sheet r
+-- what the answer to these bytes says, where they read so: a refused message is at fault where the refusal says, and the
+-- fault is passed up whole; an accepted one is its sheet's message, and the verdict says what the sheet earns
+abbrev pub Told : List ℕ → Result Sheet SheetFault → Result Verdict JobFault → Type 0
+Told bytes (Err fault) r = FaultAt bytes fault × (r ≡ Err (faults.Sheet fault))
+Told bytes (Ok sheet) r = Canonical bytes sheet × SheetTold sheet r

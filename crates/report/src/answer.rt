@@ -2,11 +2,11 @@
 ghost use mathlib.Core.Path.{_≡_};
 ghost use Rattle.messages.specs.Messages.{decoded};
 ghost use Rattle.books.specs.Verdicts.{verdict-of, Says};
-ghost use Rattle.members.specs.Members.{lawful-wall};
+ghost use Rattle.members.specs.Members.{lawful-beam-member, lawful-column-member, lawful-wall};
 ghost use Rattle.beams.specs.Articles.{beam-meaning};
 ghost use Rattle.columns.specs.Articles.{column-meaning};
 ghost use Rattle.walls.specs.Articles.{wall-meaning};
-ghost use Rattle.report.specs.Answers.{SheetTold, Told, answered, lawful-beam-member, lawful-column-member, sheet-verdict};
+ghost use Rattle.report.specs.Answers.{SheetTold, Told, answered, sheet-verdict};
 use crate::line::Line;
 use beams::articles::BeamBook;
 use beams::articles::BeamBookArticles;
@@ -33,7 +33,7 @@ use walls::articles::WallBookArticles;
 // The line that answers a message: the verdict of the book of its kind, or the refusal.
 pub fn reply(message: &[u8]) -> Line
     ensures line_of_the_answer { λ r. ⌜ r .answer ≡ answered (decoded (now (message .entry))) ⌝ }
-    ensures says_what_the_message_earns { λ r. ⌜ Told (decoded (now (message .entry))) (r .answer) ⌝ }
+    ensures says_what_the_message_earns { λ r. ⌜ Told (now (message .entry)) (decoded (now (message .entry))) (r .answer) ⌝ }
 {
     let answer = answer_to(message);
     Line { answer }
@@ -41,7 +41,7 @@ pub fn reply(message: &[u8]) -> Line
 
 fn answer_to(message: &[u8]) -> Result<Verdict, JobFault>
     ensures verdict_or_refusal { λ r. ⌜ r ≡ answered (decoded (now (message .entry))) ⌝ }
-    ensures says_what_the_message_earns { λ r. ⌜ Told (decoded (now (message .entry))) r ⌝ }
+    ensures says_what_the_message_earns { λ r. ⌜ Told (now (message .entry)) (decoded (now (message .entry))) r ⌝ }
 {
     let sheet = decode(message)?;
     verdict_on(sheet)

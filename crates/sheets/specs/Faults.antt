@@ -11,7 +11,7 @@ use Rattle.sheets.specs.declared.faults.MessageFault.the-variants.{Size, CutSh
 use Rattle.sheets.specs.declared.faults.SheetFault.{SheetFault}
 use Rattle.sheets.specs.declared.faults.SheetFault.the-variants.{Message, Value}
 use Rattle.sheets.specs.declared.faults.JobFault.{JobFault}
-use Rattle.sheets.specs.declared.faults.JobFault.the-variants.{Sheet, Argument, Full, Filed, Unknown, Unlawful, InHand, OtherHand, Floor, OtherStorey, OverHand, OverLoad, Entangled, NotTaken}
+use Rattle.sheets.specs.declared.faults.JobFault.the-variants.{Sheet, Argument, Full, Filed, Unknown, Unlawful, InHand, HandDiffers, UnderSevenTenths, OtherStorey, OverHand, OverLoad, ShearMoved, NotTaken}
 
 -- a ground from the input: I number, in a layer, at a place
 abbrev pub from-input : ℕ → ℕ → ℕ → Refusal
@@ -42,12 +42,12 @@ job-refusal Filed = from-state 2
 job-refusal Unknown = from-state 3
 job-refusal Unlawful = from-state 4
 job-refusal InHand = from-state 5
-job-refusal OtherHand = from-state 6
-job-refusal Floor = from-state 7
+job-refusal HandDiffers = from-state 6
+job-refusal UnderSevenTenths = from-state 7
 job-refusal OtherStorey = from-state 8
 job-refusal OverHand = from-state 9
 job-refusal OverLoad = from-state 10
-job-refusal Entangled = from-state 11
+job-refusal ShearMoved = from-state 11
 job-refusal NotTaken = from-state 12
 
 -- the letter before a refusal's number

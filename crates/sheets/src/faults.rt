@@ -15,7 +15,7 @@ pub enum Origin {
 }
 
 // What a refusal answers: its number, as I3 or S7, the layer that refused (1 message, 2 sheet, 3 job) and the place,
-// a byte offset in the message.
+// a byte offset in the message, or 0 where it has none.
 #[derive(Clone, Copy)]
 pub struct Refusal {
     pub origin: Origin,
@@ -57,14 +57,14 @@ pub enum JobFault {
     Filed,
     // S3: no such mark
     Unknown,
-    // S4: the row is unlawful
+    // S4: the row or the member is unlawful
     Unlawful,
     // S5: the hand or the job has shear already
     InHand,
     // S6: the hand is empty or differs from the job's note
-    OtherHand,
+    HandDiffers,
     // S7: the wall would keep under seven tenths of its sheet's shear
-    Floor,
+    UnderSevenTenths,
     // S8: the wall is on another storey
     OtherStorey,
     // S9: more than the hand has
@@ -72,7 +72,7 @@ pub enum JobFault {
     // S10: the wall would carry over 10,000,000 N
     OverLoad,
     // S11: the wall's carried shear differs from its sheet's, or shear in hand came from it
-    Entangled,
+    ShearMoved,
     // S12: the book does not take the member
     NotTaken,
 }
@@ -113,12 +113,12 @@ impl JobFault {
             JobFault::Unknown => state(3),
             JobFault::Unlawful => state(4),
             JobFault::InHand => state(5),
-            JobFault::OtherHand => state(6),
-            JobFault::Floor => state(7),
+            JobFault::HandDiffers => state(6),
+            JobFault::UnderSevenTenths => state(7),
             JobFault::OtherStorey => state(8),
             JobFault::OverHand => state(9),
             JobFault::OverLoad => state(10),
-            JobFault::Entangled => state(11),
+            JobFault::ShearMoved => state(11),
             JobFault::NotTaken => state(12),
         }
     }

@@ -1,4 +1,4 @@
--- The limits of every number on a sheet. Assumes nothing.
+-- What a limit is, and which numbers keep it. Assumes nothing.
 use mathlib.Core.Bool.{Bool, true, false, _&&_}
 use mathlib.Core.List.{List, [], _∷_}
 use Prim.Native.Nat.{ℕ}

@@ -1,4 +1,4 @@
-// The limits of every number on a sheet: one table for each kind, in the order of its message.
+// What a limit is, and which numbers keep it.
 ghost use mathlib.Core.Path.{_≡_};
 ghost use Rattle.tables.specs.Limits.{within, admitted};
 use crate::materials::bar_area;

@@ -84,12 +84,14 @@ fn panel_size(sheet: &WallSheet) -> PanelSize
     }
 }
 
+// 6.4.1: the thickness is at least 150 mm, by zone.
 fn least_thickness(panel: PanelSize) -> Finding
     ensures thickness_against_its_least { λ r. ⌜ r ≡ least-thickness panel ⌝ }
 {
     Finding::at_least(u64::from(panel.thickness) * u64::from(panel.zone), 15_000)
 }
 
+// 6.4.1: the thickness is at least a twentieth of the support distance, by zone.
 fn thickness_by_support(panel: PanelSize) -> Finding
     ensures thickness_against_the_support_distance { λ r. ⌜ r ≡ thickness-by-support panel ⌝ }
 {
@@ -99,6 +101,7 @@ fn thickness_by_support(panel: PanelSize) -> Finding
     )
 }
 
+// 6.7.1: the vertical bars are at least a four-hundredth of the wall.
 fn least_vertical_area(panel: PanelSize) -> Finding
     ensures vertical_area_at_least_a_share_of_the_wall { λ r. ⌜ r ≡ least-vertical-area panel ⌝ }
 {
@@ -108,6 +111,7 @@ fn least_vertical_area(panel: PanelSize) -> Finding
     )
 }
 
+// 6.7.1: the vertical bars are at most a twentieth of the wall.
 fn most_vertical_area(panel: PanelSize) -> Finding
     ensures vertical_area_at_most_a_share_of_the_wall { λ r. ⌜ r ≡ most-vertical-area panel ⌝ }
 {
@@ -117,6 +121,7 @@ fn most_vertical_area(panel: PanelSize) -> Finding
     )
 }
 
+// 6.7.2: the vertical bars are at most a tenth of the thickness.
 fn most_vertical_diameter(panel: PanelSize) -> Finding
     ensures vertical_diameter_against_the_thickness { λ r. ⌜ r ≡ most-vertical-diameter panel ⌝ }
 {
@@ -126,24 +131,28 @@ fn most_vertical_diameter(panel: PanelSize) -> Finding
     )
 }
 
+// 6.7.2: the vertical bars are at least 8 mm.
 fn least_vertical_diameter(panel: PanelSize) -> Finding
     ensures vertical_diameter_against_its_least { λ r. ⌜ r ≡ least-vertical-diameter panel ⌝ }
 {
     Finding::at_least(u64::from(panel.vertical_diameter), 8)
 }
 
+// 6.7.4: there are at least two layers.
 fn least_layers(panel: PanelSize) -> Finding
     ensures layers_against_their_least { λ r. ⌜ r ≡ least-layers panel ⌝ }
 {
     Finding::at_least(u64::from(panel.layers), 2)
 }
 
+// 6.7.4: the vertical bars are at most 200 mm apart.
 fn most_vertical_spacing(panel: PanelSize) -> Finding
     ensures vertical_spacing_against_its_most { λ r. ⌜ r ≡ most-vertical-spacing panel ⌝ }
 {
     Finding::at_most(u64::from(panel.vertical_spacing), 200)
 }
 
+// 6.8.1: the horizontal bars are at least a four-hundredth of the wall.
 fn least_horizontal_area(panel: PanelSize) -> Finding
     ensures horizontal_area_against_the_wall { λ r. ⌜ r ≡ least-horizontal-area panel ⌝ }
 {
@@ -153,6 +162,7 @@ fn least_horizontal_area(panel: PanelSize) -> Finding
     )
 }
 
+// 6.8.2: the horizontal bars are at most a tenth of the thickness.
 fn most_horizontal_diameter(panel: PanelSize) -> Finding
     ensures horizontal_diameter_against_the_thickness { λ r. ⌜ r ≡ most-horizontal-diameter panel ⌝ }
 {
@@ -162,12 +172,14 @@ fn most_horizontal_diameter(panel: PanelSize) -> Finding
     )
 }
 
+// 6.8.3: the horizontal bars are at most 200 mm apart.
 fn most_horizontal_spacing(panel: PanelSize) -> Finding
     ensures horizontal_spacing_against_its_most { λ r. ⌜ r ≡ most-horizontal-spacing panel ⌝ }
 {
     Finding::at_most(u64::from(panel.horizontal_spacing), 200)
 }
 
+// 6.6.4: the vertical bars and the compression hold the factored shear.
 fn least_hold_by_vertical_bars(wall: &Wall) -> Finding
     requires lawful_member { ⌜ lawful-wall (now wall) ≡ true ⌝ }
     ensures vertical_bars_against_the_factored_shear { λ r. ⌜ r ≡ least-hold-by-vertical-bars (now (wall .entry)) ⌝ }
@@ -179,6 +191,7 @@ fn least_hold_by_vertical_bars(wall: &Wall) -> Finding
     )
 }
 
+// 6.6.3.4.1: in a slender wall the horizontal bars hold the factored shear; every storey counts as critical.
 fn least_hold_by_horizontal_bars(wall: &Wall) -> Finding
     requires lawful_member { ⌜ lawful-wall (now wall) ≡ true ⌝ }
     ensures horizontal_bars_of_a_slender_wall { λ r. ⌜ r ≡ least-hold-by-horizontal-bars (now (wall .entry)) ⌝ }
@@ -293,7 +306,7 @@ fn sizes(wall: &Wall) -> WallSizes
     }
 }
 
-// The factor on the shear, in thousandths.
+// 6.3.4.1: the factor on the shear, in thousandths: it grows with the storeys under static analysis.
 fn factor_by(analysis: Option<Analysis>, storeys: u64) -> u64
     requires at_least_one_storey { ⌜ 1 ≤ storeys ⌝ }
     requires at_most_40_storeys { ⌜ storeys ≤ 40 ⌝ }
