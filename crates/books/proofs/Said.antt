@@ -5,8 +5,8 @@ use Prim.Native.Nat.{ℕ, _+_, _≤_, _<_}
 use native.Mathlib.Omega.{arith}
 use Rattle.std.specs.declared.result.Result.{Result}
 use Rattle.std.specs.declared.result.Result.the-variants.{Ok, Err}
-use Rattle.sheets.specs.declared.faults.JobFault.{JobFault}
-use Rattle.sheets.specs.declared.faults.JobFault.the-variants.{Unlawful, NotTaken}
+use Rattle.faults.specs.declared.fault.JobFault.{JobFault}
+use Rattle.faults.specs.declared.fault.JobFault.the-variants.{Unlawful, NotTaken}
 use Rattle.books.specs.Meanings.{Meaning}
 use Rattle.books.specs.Verdicts.{lowest, verdict-of, Says, NoneBrokenBelow}
 use Rattle.books.specs.declared.answers.Sides.{Sides}

@@ -4,8 +4,8 @@ use mathlib.Core.Bool.{Bool, true, false, cond}
 use Prim.Native.Nat.{ℕ, zero, suc, _+_, _≤_, _<_}
 use Rattle.std.specs.declared.result.Result.{Result}
 use Rattle.std.specs.declared.result.Result.the-variants.{Ok, Err}
-use Rattle.sheets.specs.declared.faults.JobFault.{JobFault}
-use Rattle.sheets.specs.declared.faults.JobFault.the-variants.{Unlawful, NotTaken}
+use Rattle.faults.specs.declared.fault.JobFault.{JobFault}
+use Rattle.faults.specs.declared.fault.JobFault.the-variants.{Unlawful, NotTaken}
 use Rattle.books.specs.Meanings.{Meaning}
 use Rattle.books.specs.declared.answers.Sides.{Sides}
 use Rattle.books.specs.declared.answers.Finding.{Finding}

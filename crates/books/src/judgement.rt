@@ -6,7 +6,7 @@ use crate::answers::Finding;
 use crate::answers::Verdict;
 use crate::book::Book;
 use crate::book::Member;
-use sheets::faults::JobFault;
+use faults::fault::JobFault;
 
 // The verdict, or a refusal of a member that is unlawful (S4) or that the book does not take (S12).
 pub fn verdict<M: Member, B: Book<M>>(book: &B, member: &M) -> Result<Verdict, JobFault>

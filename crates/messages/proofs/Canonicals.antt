@@ -23,8 +23,8 @@ use Rattle.sheets.specs.Sheets.{beam-of, column-of, wall-of, beam-numbers, colu
 use Rattle.messages.specs.Messages.{four-bytes, field, number-fields, message-of, message, two-byte, Cut, then, raised, cut, body-due, one-byte, four-byte, number-due, numbers-due, ended, all-due, kind-read, kind-due, size-due, sheet-due, decoded, before, lawful-sheet, Canonical}
 use Rattle.tables.specs.declared.codes.Kind.{Kind}
 use Rattle.tables.specs.declared.codes.Kind.the-variants as kinds
-use Rattle.sheets.specs.declared.faults.MessageFault.{MessageFault}
-use Rattle.sheets.specs.declared.faults.SheetFault.{SheetFault}
+use Rattle.faults.specs.declared.fault.MessageFault.{MessageFault}
+use Rattle.faults.specs.declared.fault.SheetFault.{SheetFault}
 use Rattle.tables.specs.declared.limits.Limit.{Limit}
 use Rattle.sheets.specs.declared.sheet.Sheet.{Sheet}
 use Rattle.sheets.specs.declared.sheet.Sheet.the-variants.{Beam, Column, Wall}

@@ -21,10 +21,10 @@ use Rattle.tables.specs.declared.codes.Kind.{Kind}
 use Rattle.tables.specs.declared.codes.Kind.the-variants as kinds
 use Rattle.tables.specs.declared.limits.Limit.{Limit}
 use Rattle.sheets.specs.Limits.{beam-limits, column-limits, wall-limits}
-use Rattle.sheets.specs.declared.faults.MessageFault.{MessageFault}
-use Rattle.sheets.specs.declared.faults.MessageFault.the-variants.{Size, CutShort, NotDue, Length}
-use Rattle.sheets.specs.declared.faults.SheetFault.{SheetFault}
-use Rattle.sheets.specs.declared.faults.SheetFault.the-variants.{Message, Value}
+use Rattle.faults.specs.declared.fault.MessageFault.{MessageFault}
+use Rattle.faults.specs.declared.fault.MessageFault.the-variants.{Size, CutShort, NotDue, Length}
+use Rattle.faults.specs.declared.fault.SheetFault.{SheetFault}
+use Rattle.faults.specs.declared.fault.SheetFault.the-variants.{Message, Value}
 use Rattle.sheets.specs.declared.sheet.Sheet.{Sheet}
 use Rattle.messages.specs.Messages.{four-bytes, field, number-fields, message-of, two-byte, Cut, then, raised, cut, body-due, one-byte, four-byte, number-due, numbers-due, before, ended, all-due, kind-read, kind-due, size-due, sheet-due, decoded}
 use Rattle.messages.specs.Faulty.{big-endian, Whole, Short, Wrong, limits-of, WrongNumber, LeftOver, FaultAt}

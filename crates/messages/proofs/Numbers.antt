@@ -8,7 +8,7 @@ use Rattle.std.proofs.shelf.Lists.{drop-more, drop-all, take-all, take-more-set
 use Rattle.std.specs.declared.result.Result.{Result}
 use Rattle.std.specs.declared.result.Result.the-variants.{Ok, Err}
 use Rattle.messages.specs.Messages.{then, before, number-due, numbers-due}
-use Rattle.sheets.specs.declared.faults.SheetFault.{SheetFault}
+use Rattle.faults.specs.declared.fault.SheetFault.{SheetFault}
 use Rattle.tables.specs.declared.limits.Limit.{Limit}
 
 -- numbers before those read after them

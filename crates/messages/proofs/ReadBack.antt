@@ -24,9 +24,9 @@ use Rattle.tables.specs.declared.limits.Limit.the-variants.{Between, Diameter, 
 use Rattle.sheets.specs.declared.sheet.Sheet.{Sheet}
 use Rattle.sheets.specs.declared.sheet.Sheet.the-variants.{Beam, Column, Wall}
 use Rattle.messages.proofs.Digits.{digits-number}
-use Rattle.sheets.specs.declared.faults.MessageFault.the-variants.{Size}
-use Rattle.sheets.specs.declared.faults.JobFault.{JobFault}
-use Rattle.sheets.specs.declared.faults.JobFault.the-variants.{Argument}
+use Rattle.faults.specs.declared.fault.MessageFault.the-variants.{Size}
+use Rattle.faults.specs.declared.fault.JobFault.{JobFault}
+use Rattle.faults.specs.declared.fault.JobFault.the-variants.{Argument}
 use Rattle.messages.proofs.Steps.{cond-ok}
 use Rattle.messages.proofs.Written.{length-message, put-fits}
 

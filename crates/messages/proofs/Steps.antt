@@ -6,7 +6,7 @@ use native.Mathlib.Omega.{arith}
 use Rattle.std.specs.declared.result.Result.{Result}
 use Rattle.std.specs.declared.result.Result.the-variants.{Ok, Err}
 use Rattle.messages.specs.Messages.{then, raised}
-use Rattle.sheets.specs.declared.faults.MessageFault.{MessageFault}
+use Rattle.faults.specs.declared.fault.MessageFault.{MessageFault}
 
 pub then-ok : {A B E : Type 0} (r : Result A E) (next : A → Result B E) (y : B) → then r next ≡ Ok y → (x : A) × (r ≡ Ok x) × (next x ≡ Ok y)
 then-ok (Ok x) next y e = (x, refl, e)

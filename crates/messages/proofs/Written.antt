@@ -11,7 +11,7 @@ use Rattle.std.specs.declared.result.Result.the-variants.{Ok, Err}
 use Rattle.tables.specs.Codes.{kind-number}
 use Rattle.messages.specs.Messages.{four-bytes, field, number-fields, message-of, put, put-length}
 use Rattle.tables.specs.declared.codes.Kind.{Kind}
-use Rattle.sheets.specs.declared.faults.JobFault.the-variants.{Argument}
+use Rattle.faults.specs.declared.fault.JobFault.the-variants.{Argument}
 
 length-fields : (i : ℕ) (ns : List ℕ) → length (number-fields i ns) ≡ 7 * length ns
 length-fields i [] = refl

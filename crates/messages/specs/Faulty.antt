@@ -12,10 +12,10 @@ use Rattle.tables.specs.declared.codes.Kind.{Kind}
 use Rattle.tables.specs.declared.codes.Kind.the-variants.{Beam, Column, Wall}
 use Rattle.tables.specs.declared.limits.Limit.{Limit}
 use Rattle.sheets.specs.Limits.{beam-limits, column-limits, wall-limits}
-use Rattle.sheets.specs.declared.faults.MessageFault.{MessageFault}
-use Rattle.sheets.specs.declared.faults.MessageFault.the-variants.{Size, CutShort, NotDue, Length}
-use Rattle.sheets.specs.declared.faults.SheetFault.{SheetFault}
-use Rattle.sheets.specs.declared.faults.SheetFault.the-variants.{Message, Value}
+use Rattle.faults.specs.declared.fault.MessageFault.{MessageFault}
+use Rattle.faults.specs.declared.fault.MessageFault.the-variants.{Size, CutShort, NotDue, Length}
+use Rattle.faults.specs.declared.fault.SheetFault.{SheetFault}
+use Rattle.faults.specs.declared.fault.SheetFault.the-variants.{Message, Value}
 use Rattle.messages.specs.Messages.{message-of}
 
 -- the number that bytes give, the high byte first, after those that gave n

@@ -17,12 +17,12 @@ use Rattle.sheets.specs.Limits.{beam-limits, column-limits, wall-limits}
 use Rattle.sheets.specs.Sheets.{beam-of, column-of, wall-of, beam-numbers, column-numbers, wall-numbers, lawful-beam, lawful-column, lawful-wall-sheet}
 use Rattle.tables.specs.declared.codes.Kind.{Kind}
 use Rattle.tables.specs.declared.codes.Kind.the-variants as kinds
-use Rattle.sheets.specs.declared.faults.MessageFault.{MessageFault}
-use Rattle.sheets.specs.declared.faults.MessageFault.the-variants.{Size, CutShort, NotDue, Length}
-use Rattle.sheets.specs.declared.faults.SheetFault.{SheetFault}
-use Rattle.sheets.specs.declared.faults.SheetFault.the-variants.{Message, Value}
-use Rattle.sheets.specs.declared.faults.JobFault.{JobFault}
-use Rattle.sheets.specs.declared.faults.JobFault.the-variants.{Argument}
+use Rattle.faults.specs.declared.fault.MessageFault.{MessageFault}
+use Rattle.faults.specs.declared.fault.MessageFault.the-variants.{Size, CutShort, NotDue, Length}
+use Rattle.faults.specs.declared.fault.SheetFault.{SheetFault}
+use Rattle.faults.specs.declared.fault.SheetFault.the-variants.{Message, Value}
+use Rattle.faults.specs.declared.fault.JobFault.{JobFault}
+use Rattle.faults.specs.declared.fault.JobFault.the-variants.{Argument}
 use Rattle.tables.specs.declared.limits.Limit.{Limit}
 use Rattle.sheets.specs.declared.sheet.Sheet.{Sheet}
 use Rattle.sheets.specs.declared.sheet.Sheet.the-variants.{Beam, Column, Wall}

@@ -4,9 +4,9 @@ use mathlib.Core.List.{List}
 use Prim.Native.Nat.{ℕ}
 use Rattle.std.specs.declared.result.Result.{Result}
 use Rattle.std.specs.declared.result.Result.the-variants.{Ok, Err}
-use Rattle.sheets.specs.declared.faults.SheetFault.{SheetFault}
-use Rattle.sheets.specs.declared.faults.JobFault.{JobFault}
-use Rattle.sheets.specs.declared.faults.JobFault.the-variants as faults
+use Rattle.faults.specs.declared.fault.SheetFault.{SheetFault}
+use Rattle.faults.specs.declared.fault.JobFault.{JobFault}
+use Rattle.faults.specs.declared.fault.JobFault.the-variants as faults
 use Rattle.sheets.specs.declared.sheet.Sheet.{Sheet}
 use Rattle.sheets.specs.declared.sheet.Sheet.the-variants as sheets
 use Rattle.messages.specs.Faulty.{FaultAt}

@@ -4,8 +4,8 @@ use Prim.Native.Nat.{ℕ}
 use lib.Chars.{codes}
 use Rattle.std.specs.declared.result.Result.{Result}
 use Rattle.std.specs.declared.result.Result.the-variants.{Ok, Err}
-use Rattle.sheets.specs.Faults.{job-refusal, refusal-text}
-use Rattle.sheets.specs.declared.faults.JobFault.{JobFault}
+use Rattle.faults.specs.Faults.{job-refusal, refusal-text}
+use Rattle.faults.specs.declared.fault.JobFault.{JobFault}
 use Rattle.books.specs.Findings.{verdict-text}
 use Rattle.books.specs.declared.answers.Verdict.{Verdict}
 

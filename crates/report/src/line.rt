@@ -3,8 +3,8 @@ ghost use Rattle.std.specs.declared.option.Option.the-variants.{Some};
 ghost use Rattle.report.specs.Lines.{line-text};
 use books::answers::Verdict;
 use books::answers::VerdictDisplay;
-use sheets::faults::JobFault;
-use sheets::faults::RefusalDisplay;
+use faults::fault::JobFault;
+use faults::fault::RefusalDisplay;
 use std::fmt;
 
 // The answer to a message.

@@ -1,4 +1,3 @@
-// The sheets of beams, columns and wall panels with the limits of their numbers, and the grounds of refusal.
-pub mod faults;
+// The sheets of beams, columns and wall panels, with the limits of their numbers.
 pub mod limits;
 pub mod sheet;

@@ -2,7 +2,7 @@
 use mathlib.Core.Path.{ap, refl, subst, sym, _∙_}
 use Rattle.std.proofs.shelf.Results.{err-from-errBy}
 use Rattle.std.specs.declared.result.Result.the-variants.{Err}
-use Rattle.sheets.specs.declared.faults.JobFault.the-variants.{Sheet}
+use Rattle.faults.specs.declared.fault.JobFault.the-variants.{Sheet}
 use Rattle.report.specs.Answers.{Told, answered}
 use Rattle.report.proofs.answer.answer_to.Needs as need
 

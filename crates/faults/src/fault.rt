@@ -1,10 +1,10 @@
 // The grounds of refusal, layer inside layer: a message fault inside a sheet fault inside a job fault.
-// `Rattle.sheets.specs.Faults` gives case by case the number, the layer and the place that a refusal answers.
+// `Rattle.faults.specs.Faults` gives case by case the number, the layer and the place that a refusal answers.
 ghost use mathlib.Core.Path.{_≡_};
-ghost use Rattle.sheets.specs.Faults.{from-input, from-state, message-refusal, sheet-refusal, job-refusal, refusal-text};
+ghost use Rattle.faults.specs.Faults.{from-input, from-state, message-refusal, sheet-refusal, job-refusal, refusal-text};
 ghost use Rattle.std.specs.declared.option.Option.the-variants.{Some};
-ghost use Rattle.sheets.specs.declared.faults.SheetFault.the-variants.{Message};
-ghost use Rattle.sheets.specs.declared.faults.JobFault.the-variants.{Sheet};
+ghost use Rattle.faults.specs.declared.fault.SheetFault.the-variants.{Message};
+ghost use Rattle.faults.specs.declared.fault.JobFault.the-variants.{Sheet};
 use std::fmt;
 
 // Whether a refusal comes from the input or from the state, with the letter before its number.

@@ -3,15 +3,15 @@ use mathlib.Core.List.{List, _++_}
 use Prim.Native.Nat.{ℕ}
 use lib.Chars.{codes}
 use Rattle.std.specs.Written.{decimal}
-use Rattle.sheets.specs.declared.faults.Origin.{Origin}
-use Rattle.sheets.specs.declared.faults.Origin.the-variants.{Input, State}
-use Rattle.sheets.specs.declared.faults.Refusal.{Refusal}
-use Rattle.sheets.specs.declared.faults.MessageFault.{MessageFault}
-use Rattle.sheets.specs.declared.faults.MessageFault.the-variants.{Size, CutShort, NotDue, Length}
-use Rattle.sheets.specs.declared.faults.SheetFault.{SheetFault}
-use Rattle.sheets.specs.declared.faults.SheetFault.the-variants.{Message, Value}
-use Rattle.sheets.specs.declared.faults.JobFault.{JobFault}
-use Rattle.sheets.specs.declared.faults.JobFault.the-variants.{Sheet, Argument, Full, Filed, Unknown, Unlawful, InHand, HandDiffers, UnderSevenTenths, OtherStorey, OverHand, OverLoad, ShearMoved, NotTaken}
+use Rattle.faults.specs.declared.fault.Origin.{Origin}
+use Rattle.faults.specs.declared.fault.Origin.the-variants.{Input, State}
+use Rattle.faults.specs.declared.fault.Refusal.{Refusal}
+use Rattle.faults.specs.declared.fault.MessageFault.{MessageFault}
+use Rattle.faults.specs.declared.fault.MessageFault.the-variants.{Size, CutShort, NotDue, Length}
+use Rattle.faults.specs.declared.fault.SheetFault.{SheetFault}
+use Rattle.faults.specs.declared.fault.SheetFault.the-variants.{Message, Value}
+use Rattle.faults.specs.declared.fault.JobFault.{JobFault}
+use Rattle.faults.specs.declared.fault.JobFault.the-variants.{Sheet, Argument, Full, Filed, Unknown, Unlawful, InHand, HandDiffers, UnderSevenTenths, OtherStorey, OverHand, OverLoad, ShearMoved, NotTaken}
 
 -- a ground from the input: I number, in a layer, at a place
 abbrev pub from-input : ℕ → ℕ → ℕ → Refusal

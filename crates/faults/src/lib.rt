@@ -1,0 +1,2 @@
+// The grounds of refusal, with the number, the layer and the place that each answers.
+pub mod fault;
