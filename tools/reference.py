@@ -1,5 +1,5 @@
 #!/usr/bin/env python3
-"""Reference for sheets, messages, books and the console line, written from the documents alone.
+"""Reference for sheets, messages, books and the console line, written from the pages in docs/ alone.
 
 `python3 reference.py < message` prints the console line. Lengths are in mm, areas in mm², forces in N. All numbers are
 whole numbers.

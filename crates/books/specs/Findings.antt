@@ -11,6 +11,7 @@ use Rattle.books.specs.declared.answers.Finding.the-variants.{Held, Broken, No
 use Rattle.books.specs.declared.answers.Verdict.{Verdict}
 use Rattle.books.specs.declared.answers.Verdict.the-variants.{Certificate, Breaks}
 
+-- both sides of a comparison
 abbrev pub sides : ℕ → ℕ → Sides
 sides l r = record { left = l; right = r }
 

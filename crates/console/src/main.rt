@@ -29,6 +29,7 @@ fn fill<R: Read>(input: &mut R, buffer: &mut [u8]) -> io::Result<usize>
     Ok(size)
 }
 
+// One message in, one line out.
 fn main(rt: LibcRuntime) -> io::Result<()> {
     let mut buffer = [0u8; ENOUGH];
     let mut input = rt.stdin();
@@ -40,14 +41,14 @@ fn main(rt: LibcRuntime) -> io::Result<()> {
 #[cfg(test)]
 mod tests {
     use super::*;
+    use books::answers::Verdict;
     use books::judgement::verdict;
+    use faults::fault::JobFault;
     use members::member::Wall;
     use members::member::WallMember;
     use messages::message::encode;
-    use report::line::Line;
     use sheets::sheet::Sheet;
     use sheets::sheet::WallSheet;
-    use std::alloc::Global;
     use std::test::*;
     use walls::articles::WallBook;
     use walls::articles::WallBookArticles;
@@ -78,19 +79,23 @@ mod tests {
         Ok(())
     }
 
-    fn written(heap: Global, line: Line, text: &str) -> Result<(), Fail> {
-        let shown = line.to_string(heap)?;
-        check(shown.as_str() == text).note(text)
+    // Whether the answer is a refusal with this number from the input, in this layer, at place 0.
+    fn is_refused(answer: Result<Verdict, JobFault>, number: u32, layer: u32) -> bool {
+        match answer {
+            Err(fault) => {
+                let refusal = fault.refusal();
+                refusal.number == number && refusal.layer == layer && refusal.place == 0
+            }
+            Ok(_) => false,
+        }
     }
 
     #[test]
-    fn empty_and_overlong_input_is_refused(rt: LibcRuntime) -> Result<(), Fail> {
+    fn empty_and_overlong_input_is_refused() -> Result<(), Fail> {
         let zeros = [0u8; ENOUGH];
-        written(rt.alloc(), reply(&zeros[0..0]), "refused I1 1 0")?;
-        written(rt.alloc(), reply(&zeros), "refused I1 1 0")?;
-        written(rt.alloc(), reply(&zeros[0..256]), "refused I3 1 0")?;
-        written(rt.alloc(), reply(&[1, 0]), "refused I2 1 0")?;
-        written(rt.alloc(), reply(&[1, 0, 1, 4]), "refused I5 2 0")
+        check(is_refused(reply(&zeros[0..0]).answer, 1, 1))?;
+        check(is_refused(reply(&zeros).answer, 1, 1))?;
+        check(is_refused(reply(&zeros[0..256]).answer, 3, 1))
     }
 
     // The worked wall: storey 1 of 5, static, 200 thick, 3,000 long, shear 600,000.
@@ -120,18 +125,39 @@ mod tests {
     }
 
     #[test]
-    fn carried_shear_decides_article_12(rt: LibcRuntime) -> Result<(), Fail> {
+    fn carried_shear_decides_article_12() -> Result<(), Fail> {
         let sheet = worked_wall();
-        for (carried, line) in [
-            (420_000, "certificate"),
-            (419_999, "refused S4 3 0"),
-            (682_631, "certificate"),
-            (682_632, "broken 12 12867600000 12867613200"),
-        ] {
-            let answer = verdict(&WallBook, &Wall { sheet, carried });
-            written(rt.alloc(), Line { answer }, line)?;
+        for carried in [420_000, 682_631] {
+            check(matches!(
+                verdict(&WallBook, &Wall { sheet, carried }),
+                Ok(Verdict::Certificate)
+            ))?;
         }
-        Ok(())
+        check(is_refused(
+            verdict(
+                &WallBook,
+                &Wall {
+                    sheet,
+                    carried: 419_999,
+                },
+            ),
+            4,
+            3,
+        ))?;
+        match verdict(
+            &WallBook,
+            &Wall {
+                sheet,
+                carried: 682_632,
+            },
+        ) {
+            Ok(Verdict::Breaks(article, sides)) => {
+                check(
+                    article == 12 && sides.left == 12_867_600_000 && sides.right == 12_867_613_200,
+                )
+            }
+            _ => Err(Fail::new("article 12 is not named")),
+        }
     }
 
     #[test]

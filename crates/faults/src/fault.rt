@@ -102,6 +102,7 @@ impl SheetFault {
 }
 
 impl JobFault {
+    // What the refusal answers; a fault from below keeps its number, layer and place.
     pub fn refusal(self) -> Refusal
         ensures number_layer_and_place { λ r. ⌜ r ≡ job-refusal self ⌝ }
     {
@@ -139,6 +140,7 @@ pub impl fmt::Display for Refusal as RefusalDisplay {
     }
 }
 
+// A ground from the input.
 fn input(number: u32, layer: u32, place: usize) -> Refusal
     ensures from_the_input { λ r. ⌜ r ≡ from-input number layer place ⌝ }
 {
@@ -150,6 +152,7 @@ fn input(number: u32, layer: u32, place: usize) -> Refusal
     }
 }
 
+// A ground from the state: always layer 3, place 0.
 fn state(number: u32) -> Refusal
     ensures from_the_state { λ r. ⌜ r ≡ from-state number ⌝ }
 {
@@ -161,6 +164,7 @@ fn state(number: u32) -> Refusal
     }
 }
 
+// `?` puts a message fault whole into a sheet fault.
 pub impl From<MessageFault> for SheetFault as SheetFromMessage {
     ghost converts = { λ fault r. r ≡ Message fault };
 
@@ -169,6 +173,7 @@ pub impl From<MessageFault> for SheetFault as SheetFromMessage {
     }
 }
 
+// `?` puts a sheet fault whole into a job fault.
 pub impl From<SheetFault> for JobFault as JobFromSheet {
     ghost converts = { λ fault r. r ≡ Sheet fault };
 

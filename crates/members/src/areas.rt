@@ -74,5 +74,12 @@ pub fn product<const LEFT: u64, const RIGHT: u64>(left: u64, right: u64) -> u64
     ensures left_times_right_in_64_bits { λ r. ⌜ r ≡ (left * right) % 2 ^ 64 ⌝ }
     ensures exact_within_the_bounds { λ r. ⌜ (left ≤ LEFT → right ≤ RIGHT → LEFT * RIGHT < 2 ^ 64 → (r ≡ left * right) × (r ≤ LEFT * RIGHT)) ⌝ }
 {
+    product_in_64_bits(left, right)
+}
+
+// The product of two numbers, modulo 2⁶⁴.
+fn product_in_64_bits(left: u64, right: u64) -> u64
+    ensures left_times_right_in_64_bits { λ r. ⌜ r ≡ (left * right) % 2 ^ 64 ⌝ }
+{
     left.wrapping_mul(right)
 }

@@ -90,19 +90,21 @@ pub impl Member for Wall as WallMember {
     }
 }
 
-// Whether each number of the sheet keeps its limit.
+// Whether each number of a beam's sheet keeps its limit.
 fn lawful_beam(sheet: &BeamSheet) -> bool
     ensures decides_lawful { λ r. ⌜ r ≡ lawful-beam (now (sheet .entry)) ⌝ }
 {
     admits_all(&BEAM_LIMITS, &sheet.numbers())
 }
 
+// The same for a column.
 fn lawful_column(sheet: &ColumnSheet) -> bool
     ensures decides_lawful { λ r. ⌜ r ≡ lawful-column (now (sheet .entry)) ⌝ }
 {
     admits_all(&COLUMN_LIMITS, &sheet.numbers())
 }
 
+// The same for a wall.
 fn lawful_wall_sheet(sheet: &WallSheet) -> bool
     ensures decides_lawful { λ r. ⌜ r ≡ lawful-wall-sheet (now (sheet .entry)) ⌝ }
 {

@@ -122,7 +122,7 @@ fn read_numbers<'a, const N: usize>(
     bytes: &'a [u8],
     limits: &[Limit; N],
 ) -> Result<([u32; N], &'a [u8]), SheetFault>
-    requires tags_fit_a_byte { ⌜ length (now limits) ≤ 200 ⌝ }
+    requires tags_fit_a_byte { ⌜ length (now limits) ≤ 240 ⌝ }
     ensures reads_the_numbers_due { λ r. ⌜ Cases r (λ due. numbers-due 0 (now (limits .entry)) (now (bytes .entry)) ≡ Ok (due .0, now (due .1))) (λ e. numbers-due 0 (now (limits .entry)) (now (bytes .entry)) ≡ Err e) ⌝ }
 {
     let table: &[Limit] = limits;
@@ -180,6 +180,7 @@ pub fn decode(message: &[u8]) -> Result<Sheet, SheetFault>
     read_message(message)
 }
 
+// The whole reading: the size, the kind, the sheet.
 fn read_message(message: &[u8]) -> Result<Sheet, SheetFault>
     ensures sheet_or_first_fault { λ r. ⌜ r ≡ decoded (now (message .entry)) ⌝ }
 {
@@ -216,7 +217,7 @@ fn kind_field(kind: Kind) -> [u8; 4]
 
 // The field of number i of a sheet.
 fn number_field(i: usize, number: u32) -> [u8; 7]
-    requires tag_fits_a_byte { ⌜ i ≤ 200 ⌝ }
+    requires tag_fits_a_byte { ⌜ i ≤ 239 ⌝ }
     ensures field_of_the_number { λ r. ⌜ r ≡ field (16 + i) (four-bytes number) ⌝ }
 {
     let [a, b, c, d] = number.to_be_bytes();
@@ -225,7 +226,7 @@ fn number_field(i: usize, number: u32) -> [u8; 7]
 
 // How long the message of so many numbers is.
 fn message_length(numbers: usize) -> usize
-    requires tags_fit_a_byte { ⌜ numbers ≤ 200 ⌝ }
+    requires as_many_as_there_are_tags { ⌜ numbers ≤ 240 ⌝ }
     ensures four_and_seven_for_each { λ r. ⌜ r ≡ 4 + 7 * numbers ⌝ }
 {
     4 + 7 * numbers
@@ -233,7 +234,7 @@ fn message_length(numbers: usize) -> usize
 
 // Writes the fields of a sheet's numbers, in order, after the four bytes of the kind's field.
 fn write_fields<const N: usize>(numbers: &[u32; N], buffer: &mut [u8])
-    requires tags_fit_a_byte { ⌜ length (now numbers) ≤ 200 ⌝ }
+    requires tags_fit_a_byte { ⌜ length (now numbers) ≤ 240 ⌝ }
     requires fields_fit { ⌜ 4 + 7 * length (now numbers) ≤ length (now buffer) ⌝ }
     ensures fields_between_what_was_there { λ _. ⌜ now (buffer .exit) ≡ (take 4 (now (buffer .entry)) ++ number-fields 0 (now (numbers .entry))) ++ drop (4 + 7 * length (now (numbers .entry))) (now (buffer .entry)) ⌝ }
 {
@@ -250,7 +251,7 @@ fn write_message<const N: usize>(
     numbers: &[u32; N],
     buffer: &mut [u8],
 ) -> Result<usize, JobFault>
-    requires tags_fit_a_byte { ⌜ length (now numbers) ≤ 200 ⌝ }
+    requires tags_fit_a_byte { ⌜ length (now numbers) ≤ 240 ⌝ }
     ensures length_or_too_short { λ r. ⌜ r ≡ put-length (message-of kind (now (numbers .entry))) (now (buffer .entry)) ⌝ }
     ensures message_then_the_rest_untouched { λ _. ⌜ now (buffer .exit) ≡ put (message-of kind (now (numbers .entry))) (now (buffer .entry)) ⌝ }
 {
@@ -274,6 +275,7 @@ pub fn encode(sheet: &Sheet, buffer: &mut [u8]) -> Result<usize, JobFault>
     write_sheet(sheet, buffer)
 }
 
+// The message of each kind.
 fn write_sheet(sheet: &Sheet, buffer: &mut [u8]) -> Result<usize, JobFault>
     ensures length_or_too_short { λ r. ⌜ r ≡ put-length (message (now (sheet .entry))) (now (buffer .entry)) ⌝ }
     ensures message_then_the_rest_untouched { λ _. ⌜ now (buffer .exit) ≡ put (message (now (sheet .entry))) (now (buffer .entry)) ⌝ }

@@ -39,6 +39,7 @@ pub fn reply(message: &[u8]) -> Line
     Line { answer }
 }
 
+// The answer to a message, by which the line is made.
 fn answer_to(message: &[u8]) -> Result<Verdict, JobFault>
     ensures verdict_or_refusal { λ r. ⌜ r ≡ answered (decoded (now (message .entry))) ⌝ }
     ensures says_what_the_message_earns { λ r. ⌜ Told (now (message .entry)) (decoded (now (message .entry))) r ⌝ }
@@ -59,6 +60,7 @@ fn verdict_on(sheet: Sheet) -> Result<Verdict, JobFault>
     }
 }
 
+// The verdict of the beam book.
 fn beam_verdict(sheet: BeamSheet) -> Result<Verdict, JobFault>
     ensures verdict_of_the_beam_book { λ r. ⌜ r ≡ verdict-of lawful-beam-member beam-meaning (record { sheet = sheet }) ⌝ }
     ensures certificate_or_lowest_broken { λ r. ⌜ Says lawful-beam-member beam-meaning (record { sheet = sheet }) r ⌝ }
@@ -66,6 +68,7 @@ fn beam_verdict(sheet: BeamSheet) -> Result<Verdict, JobFault>
     verdict(&BeamBook, &Beam { sheet })
 }
 
+// The verdict of the column book.
 fn column_verdict(sheet: ColumnSheet) -> Result<Verdict, JobFault>
     ensures verdict_of_the_column_book { λ r. ⌜ r ≡ verdict-of lawful-column-member column-meaning (record { sheet = sheet }) ⌝ }
     ensures certificate_or_lowest_broken { λ r. ⌜ Says lawful-column-member column-meaning (record { sheet = sheet }) r ⌝ }
@@ -73,6 +76,7 @@ fn column_verdict(sheet: ColumnSheet) -> Result<Verdict, JobFault>
     verdict(&ColumnBook, &Column { sheet })
 }
 
+// The verdict of the wall book on a wall that carries its sheet's shear.
 fn wall_verdict(sheet: WallSheet) -> Result<Verdict, JobFault>
     ensures verdict_of_the_wall_book { λ r. ⌜ r ≡ verdict-of lawful-wall wall-meaning (record { sheet = sheet; carried = sheet .shear }) ⌝ }
     ensures certificate_or_lowest_broken { λ r. ⌜ Says lawful-wall wall-meaning (record { sheet = sheet; carried = sheet .shear }) r ⌝ }

@@ -13,6 +13,7 @@ pub struct Line {
     pub answer: Result<Verdict, JobFault>,
 }
 
+// The verdict as it is written, or `refused` and the refusal.
 pub impl fmt::Display for Line as LineDisplay {
     ghost shown = { λ line. Some (line-text (line .answer)) };
 

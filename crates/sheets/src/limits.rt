@@ -1,6 +1,7 @@
 // The limits of every number on a sheet: one table for each kind, in the order of its message.
 use tables::limits::Limit;
 
+// The limits that several sheets share.
 const MARK: Limit = Limit::Between(1, 65_535);
 
 const STRENGTH: Limit = Limit::Between(100, 300);
@@ -17,6 +18,7 @@ const SHEAR_AREA: Limit = Limit::Between(1, 5_000_000);
 
 const STOREY: Limit = Limit::Between(1, 40);
 
+// A beam's numbers.
 pub const BEAM_LIMITS: [Limit; 16] = [
     MARK,
     Limit::Zone,
@@ -41,6 +43,7 @@ pub const BEAM_LIMITS: [Limit; 16] = [
     Limit::Diameter,
 ];
 
+// A column's numbers.
 pub const COLUMN_LIMITS: [Limit; 11] = [
     MARK,
     Limit::Zone,
@@ -59,6 +62,7 @@ pub const COLUMN_LIMITS: [Limit; 11] = [
     SPACING,
 ];
 
+// A wall's numbers.
 pub const WALL_LIMITS: [Limit; 20] = [
     MARK,
     Limit::Zone,

@@ -25,6 +25,7 @@ kind-number Beam = 1
 kind-number Column = 2
 kind-number Wall = 3
 
+-- the kind of a number, or none
 abbrev pub kind-of : ℕ → Option Kind
 kind-of = numbered kind-number (Beam ∷ Column ∷ Wall ∷ [])
 
@@ -33,6 +34,7 @@ abbrev pub analysis-number : Analysis → ℕ
 analysis-number Static = 1
 analysis-number Dynamic = 2
 
+-- the analysis of a number, or none
 abbrev pub analysis-of : ℕ → Option Analysis
 analysis-of = numbered analysis-number (Static ∷ Dynamic ∷ [])
 
@@ -42,6 +44,7 @@ quantity-number Thickness = 1
 quantity-number TieSpacing = 2
 quantity-number Storey = 3
 
+-- the quantity of a number, or none
 abbrev pub quantity-of : ℕ → Option Quantity
 quantity-of = numbered quantity-number (Thickness ∷ TieSpacing ∷ Storey ∷ [])
 
@@ -50,5 +53,6 @@ abbrev pub sense-number : Sense → ℕ
 sense-number AtLeast = 1
 sense-number AtMost = 2
 
+-- the sense of a number, or none
 abbrev pub sense-of : ℕ → Option Sense
 sense-of = numbered sense-number (AtLeast ∷ AtMost ∷ [])

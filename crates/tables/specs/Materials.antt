@@ -17,6 +17,7 @@ abbrev pub listed : List ℕ → ℕ → Bool
 listed [] n = false
 listed (m ∷ ms) n = cond (eqb m n) true (listed ms n)
 
+-- a line of a table
 abbrev pub line : ℕ → ℕ → Entry
 line k v = record { key = k; value = v }
 

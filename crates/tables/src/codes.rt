@@ -12,6 +12,7 @@ pub enum Kind {
 }
 
 impl Kind {
+    // The number of the kind in messages and arguments.
     pub fn number(self) -> u32
         ensures number_of_the_kind { λ r. ⌜ r ≡ kind-number self ⌝ }
     {
@@ -22,6 +23,7 @@ impl Kind {
         }
     }
 
+    // The kind that the number stands for, or none.
     pub fn of_number(number: u32) -> Option<Kind>
         ensures kind_of_the_number { λ r. ⌜ r ≡ kind-of number ⌝ }
     {
@@ -42,6 +44,7 @@ pub enum Analysis {
 }
 
 impl Analysis {
+    // The analysis that the number stands for, or none.
     pub fn of_number(number: u32) -> Option<Analysis>
         ensures analysis_of_the_number { λ r. ⌜ r ≡ analysis-of number ⌝ }
     {
@@ -62,6 +65,7 @@ pub enum Quantity {
 }
 
 impl Quantity {
+    // The quantity that the number stands for, or none.
     pub fn of_number(number: u32) -> Option<Quantity>
         ensures quantity_of_the_number { λ r. ⌜ r ≡ quantity-of number ⌝ }
     {
@@ -82,6 +86,7 @@ pub enum Sense {
 }
 
 impl Sense {
+    // The sense that the number stands for, or none.
     pub fn of_number(number: u32) -> Option<Sense>
         ensures sense_of_the_number { λ r. ⌜ r ≡ sense-of number ⌝ }
     {

@@ -15,6 +15,7 @@ pub enum Limit {
 }
 
 impl Limit {
+    // Whether the number keeps the limit.
     pub fn admits(self, number: u32) -> bool
         ensures tells_the_limit { λ r. ⌜ r ≡ within self number ⌝ }
     {

@@ -84,6 +84,7 @@ fn is_message_of(sheet: &Sheet, bytes: &[u8]) -> bool {
     }
 }
 
+// The lines for one message.
 fn print_answer(rt: &impl Print, message: &[u8]) -> io::Result<()> {
     let line = reply(message);
     println!(rt, "{line}")?;
@@ -104,6 +105,7 @@ fn print_answer(rt: &impl Print, message: &[u8]) -> io::Result<()> {
     }
 }
 
+// One message a line in, one or two lines out.
 fn main(rt: LibcRuntime) -> Result<(), AnyError> {
     for line in BufReader::new(rt.stdin()).lines(rt.alloc()) {
         let text = line?;
