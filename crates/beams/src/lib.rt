@@ -1,2 +1,4 @@
 // The beam book.
+#![tactic(auto)]
+
 pub mod articles;

@@ -1,13 +1,12 @@
 -- The verdict says what it should. Assumes nothing.
-use Rattle.std.proofs.Common.{◌≡◌, ℕ, ◌+◌, ◌<◌, ◌≤◌, Bool, true, false, cond, Ok, Err, Result, sym, refl, ap, ◌∙◌, subst, arith}
+use Rattle.std.proofs.Common.{◌≡◌, ℕ, ◌+◌, Bool, true, false, cond, Ok, Err, Result, sym, refl, ap, ◌∙◌, subst, arith}
 use Rattle.faults.specs.declared.fault.JobFault.{JobFault}
 use Rattle.faults.specs.declared.fault.JobFault.TheVariants.{Unlawful, NotTaken}
 use Rattle.books.specs.Meanings.{Meaning}
 use Rattle.books.specs.Verdicts.{lowest, verdict_of, Says, NoneBrokenBelow}
-use Rattle.books.specs.declared.answers.Sides.{Sides}
 use Rattle.books.specs.declared.answers.Verdict.{Verdict}
 use Rattle.books.specs.declared.answers.Verdict.TheVariants.{Certificate, Breaks}
-use Rattle.books.proofs.Lowest.{Clear, First, lowest_clear, clear_lowest, lowest_first, first_lowest}
+use Rattle.books.proofs.Lowest.{Clear, lowest_clear, clear_lowest, lowest_first, first_lowest}
 
 -- a verdict that was answered came after both tests
 answered : (l t : Bool) (v w : Verdict) → ◌≡◌ {A = Result Verdict JobFault} (cond l (cond t (Ok v) (Err NotTaken)) (Err Unlawful)) (Ok w) → (l ≡ true) × (t ≡ true) × (v ≡ w)

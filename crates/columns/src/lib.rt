@@ -1,2 +1,4 @@
 // The column book.
+#![tactic(auto)]
+
 pub mod articles;

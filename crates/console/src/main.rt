@@ -1,4 +1,6 @@
 // The console: reads one message from standard input and prints the line that answers it.
+#![tactic(auto)]
+
 ghost use Rattle.std.specs.Prelude.{◌≤◌, length, IfOk};
 
 use report::answer::reply;

@@ -1,5 +1,5 @@
 -- Bounds of what stands in a table or a list. Assumes nothing.
-use Rattle.std.proofs.Common.{◌≡◌, ℕ, ◌*◌, ◌≤◌, max, true, cond, eqb, List, [], ◌∷◌, is_some, Some, unwrap_or, mul-le-mul, arith}
+use Rattle.std.proofs.Common.{◌≡◌, ℕ, ◌*◌, ◌≤◌, max, true, eqb, List, [], ◌∷◌, is_some, Some, unwrap_or, mul-le-mul, arith}
 use Rattle.std.proofs.lemmas.Bool.{cond_both, eqb-true}
 use Rattle.tables.specs.Materials.{lookup, listed, bars, roots}
 use Rattle.tables.specs.declared.materials.Entry.{Entry}

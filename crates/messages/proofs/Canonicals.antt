@@ -1,5 +1,5 @@
 -- Bytes that read as a sheet are that sheet's message, and the sheet is lawful. Assumes nothing.
-use Rattle.std.proofs.Common.{◌≡◌, ℕ, zero, suc, ◌+◌, ◌*◌, ◌<◌, ◌≤◌, Bool, true, false, cond, ◌&&◌, eqb, leb, List, [], ◌∷◌, ◌++◌, map, length, get_or, take, drop, IfOk, Some, None, Ok, Err, Option, Result, sym, refl, ap, ◌∙◌, subst, append-nil, arith, lit<, length-append, take-append-drop, length-take-le}
+use Rattle.std.proofs.Common.{◌≡◌, ℕ, zero, suc, ◌+◌, ◌*◌, ◌<◌, true, eqb, leb, List, [], ◌∷◌, ◌++◌, map, length, get_or, take, drop, IfOk, Some, None, Ok, Err, Option, Result, sym, refl, ap, ◌∙◌, subst, append-nil, arith, lit<, take-append-drop, length-take-le}
 use Rattle.std.specs.List.{range_with_len}
 use Rattle.std.proofs.lemmas.List.FromFn.{fill_by_all}
 use Rattle.std.proofs.lemmas.Bool.{and_parts, and_from, leb-true, eqb-true, false≢true}
@@ -7,11 +7,10 @@ use Rattle.std.proofs.lemmas.Bool.Decides.{nat_tests}
 use Rattle.tables.specs.Codes.{kind_number, kind_of}
 use Rattle.tables.specs.Limits.{within, admitted}
 use Rattle.sheets.specs.Limits.{beam_limits, column_limits, wall_limits}
-use Rattle.sheets.specs.Sheets.{beam_of, column_of, wall_of, beam_numbers, column_numbers, wall_numbers}
-use Rattle.messages.specs.Messages.{four_bytes, field, number_fields, message_of, message, two_byte, Cut, then, raised, cut, body_due, one_byte, four_byte, number_due, numbers_due, ended, all_due, kind_read, kind_due, size_due, sheet_due, decoded, before, lawful_sheet, Canonical}
+use Rattle.sheets.specs.Sheets.{beam_of, column_of, wall_of}
+use Rattle.messages.specs.Messages.{four_bytes, field, number_fields, message_of, message, two_byte, Cut, raised, cut, body_due, one_byte, four_byte, number_due, numbers_due, ended, all_due, kind_read, kind_due, size_due, sheet_due, decoded, before, lawful_sheet, Canonical}
 use Rattle.tables.specs.declared.codes.Kind.{Kind}
 use Rattle.tables.specs.declared.codes.Kind.TheVariants as kinds
-use Rattle.faults.specs.declared.fault.MessageFault.{MessageFault}
 use Rattle.faults.specs.declared.fault.SheetFault.{SheetFault}
 use Rattle.tables.specs.declared.limits.Limit.{Limit}
 use Rattle.sheets.specs.declared.sheet.Sheet.{Sheet}

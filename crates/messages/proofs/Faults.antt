@@ -1,6 +1,6 @@
 -- A message that is refused is at fault where the refusal says. Assumes nothing.
-use Rattle.std.proofs.Common.{◌≡◌, ℕ, zero, suc, ◌+◌, ◌*◌, ◌<◌, ◌≤◌, Bool, true, false, cond, ◌&&◌, eqb, leb, ◌⊎◌, List, [], ◌∷◌, ◌++◌, length, take, drop, is_some, IfErr, Some, None, Ok, Err, Option, Result, sym, refl, ap, ◌∙◌, subst, inl, inr, ⊎_elim, append_assoc, append-nil, arith, take-append-drop, length-take-le}
-use Rattle.std.proofs.lemmas.Bool.{cases_Bool, leb-true, leb-false, eqb-false, and_from, and_cases, and_parts}
+use Rattle.std.proofs.Common.{◌≡◌, ℕ, ◌+◌, ◌*◌, ◌<◌, ◌≤◌, Bool, true, false, cond, ◌&&◌, eqb, leb, ◌⊎◌, List, [], ◌∷◌, ◌++◌, length, is_some, IfErr, Some, None, Ok, Err, Option, Result, sym, refl, ap, ◌∙◌, subst, inl, inr, ⊎_elim, arith}
+use Rattle.std.proofs.lemmas.Bool.{leb-true, leb-false, eqb-false, and_from, and_cases, and_parts}
 use Rattle.tables.specs.Codes.{kind_number, kind_of}
 use Rattle.tables.specs.Limits.{within, admitted}
 use Rattle.tables.specs.declared.codes.Kind.{Kind}
@@ -12,8 +12,8 @@ use Rattle.faults.specs.declared.fault.MessageFault.TheVariants.{Size, CutShort,
 use Rattle.faults.specs.declared.fault.SheetFault.{SheetFault}
 use Rattle.faults.specs.declared.fault.SheetFault.TheVariants.{Message, Value}
 use Rattle.sheets.specs.declared.sheet.Sheet.{Sheet}
-use Rattle.messages.specs.Messages.{four_bytes, field, number_fields, message_of, two_byte, Cut, then, raised, cut, body_due, one_byte, four_byte, number_due, numbers_due, before, ended, all_due, kind_read, kind_due, size_due, sheet_due, decoded}
-use Rattle.messages.specs.Faulty.{big_endian, Whole, Short, Wrong, limits_of, WrongNumber, LeftOver, FaultAt}
+use Rattle.messages.specs.Messages.{four_bytes, field, number_fields, message_of, two_byte, then, raised, cut, body_due, one_byte, four_byte, number_due, numbers_due, before, ended, all_due, kind_read, kind_due, size_due, sheet_due, decoded}
+use Rattle.messages.specs.Faulty.{big_endian, Whole, Wrong, limits_of, WrongNumber, LeftOver, FaultAt}
 use Rattle.messages.proofs.Canonicals.{Bytes, back_bytes, number_ok, numbers_ok, kind_ok, Due, cut_ok, body_ok, admitted_length}
 use Rattle.messages.proofs.Steps.{raised_ok, cond_ok}
 use Rattle.messages.proofs.Written.{length_message}

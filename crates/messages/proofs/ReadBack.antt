@@ -1,13 +1,13 @@
 -- A lawful sheet's message reads back as that sheet. Assumes nothing.
-use Rattle.std.proofs.Common.{◌≡◌, ℕ, ◌+◌, ◌*◌, ◌<◌, ◌≤◌, Bool, true, false, cond, ◌&&◌, eqb, leb, List, [], ◌∷◌, ◌++◌, length, take, drop, IfOk, Ok, Err, Result, sym, refl, ap, ◌∙◌, subst, arith, lit≤}
+use Rattle.std.proofs.Common.{◌≡◌, ℕ, ◌+◌, ◌*◌, ◌<◌, ◌≤◌, Bool, true, cond, ◌&&◌, eqb, leb, List, [], ◌∷◌, ◌++◌, length, take, drop, IfOk, Ok, Err, Result, sym, refl, ap, ◌∙◌, arith, lit≤}
 use Rattle.std.proofs.lemmas.List.{take_at}
-use Rattle.std.proofs.lemmas.Bool.{cond-true, and_parts, and_from, le-leb, leb-true, eq-eqb, false≢true}
+use Rattle.std.proofs.lemmas.Bool.{and_parts, and_from, le-leb, leb-true, eq-eqb, false≢true}
 use Rattle.std.proofs.lemmas.Bool.Decides.{nat_tests}
 use Rattle.tables.specs.Codes.{kind_number}
 use Rattle.tables.specs.Limits.{within, admitted}
 use Rattle.sheets.specs.Limits.{beam_limits, column_limits, wall_limits}
 use Rattle.sheets.specs.Sheets.{beam_of, column_of, wall_of, beam_numbers, column_numbers, wall_numbers}
-use Rattle.messages.specs.Messages.{four_bytes, field, number_fields, message_of, message, then, raised, cut, body_due, four_byte, number_due, numbers_due, all_due, kind_due, sheet_due, decoded, before, lawful_sheet, ReadsBack, put, put_length}
+use Rattle.messages.specs.Messages.{four_bytes, field, number_fields, message_of, message, then, raised, number_due, numbers_due, all_due, kind_due, sheet_due, decoded, before, lawful_sheet, ReadsBack, put, put_length}
 use Rattle.tables.specs.declared.codes.Kind.{Kind}
 use Rattle.tables.specs.declared.codes.Kind.TheVariants as kinds
 use Rattle.tables.specs.declared.limits.Limit.{Limit}

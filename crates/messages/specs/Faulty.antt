@@ -6,7 +6,6 @@ use Rattle.tables.specs.declared.codes.Kind.{Kind}
 use Rattle.tables.specs.declared.codes.Kind.TheVariants.{Beam, Column, Wall}
 use Rattle.tables.specs.declared.limits.Limit.{Limit}
 use Rattle.sheets.specs.Limits.{beam_limits, column_limits, wall_limits}
-use Rattle.faults.specs.declared.fault.MessageFault.{MessageFault}
 use Rattle.faults.specs.declared.fault.MessageFault.TheVariants.{Size, CutShort, NotDue, Length}
 use Rattle.faults.specs.declared.fault.SheetFault.{SheetFault}
 use Rattle.faults.specs.declared.fault.SheetFault.TheVariants.{Message, Value}

@@ -1,7 +1,7 @@
 -- A message is a run of fields, each a one_byte tag, a two_byte length and that many bytes, high byte first.
 -- The first field has tag 1 and one byte, the kind; the sheet's numbers follow in order, four bytes each, with tags
 -- 16, 17 and so on. Here stand the message of each sheet, and what every byte string reads as. Assumes nothing.
-use Rattle.std.specs.Prelude.{◌≡◌, ℕ, ◌+◌, ◌*◌, ◌/◌, ◌%◌, Bool, true, false, cond, ◌&&◌, List, [], ◌∷◌, ◌++◌, length, take, drop, Some, None, Ok, Err, Option, Result, ◌==◌, nat_le}
+use Rattle.std.specs.Prelude.{◌≡◌, ℕ, ◌+◌, ◌*◌, ◌/◌, ◌%◌, Bool, true, cond, ◌&&◌, List, [], ◌∷◌, ◌++◌, length, take, drop, Some, None, Ok, Err, Option, Result, ◌==◌, nat_le}
 use Rattle.tables.specs.Codes.{kind_number, kind_of}
 use Rattle.tables.specs.Limits.{within}
 use Rattle.sheets.specs.Limits.{beam_limits, column_limits, wall_limits}

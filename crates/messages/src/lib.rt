@@ -1,2 +1,4 @@
 // Messages: the bytes that carry a sheet, read and written.
+#![tactic(auto)]
+
 pub mod message;

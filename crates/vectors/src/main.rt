@@ -1,6 +1,8 @@
 // Runs figures from another tool: reads one message a line, in hexadecimal, and prints for each the line that answers
 // it and, where it carries a sheet, what each article from 0 to one past the count finds on the member. A sheet that is
 // not written back as the message that it came from gets a line of its own, which no stored output has.
+#![tactic(auto)]
+
 ghost use Rattle.std.specs.Prelude.{◌≡◌, true};
 
 use beams::articles::BeamBook;

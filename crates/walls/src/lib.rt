@@ -1,2 +1,4 @@
 // The wall book.
+#![tactic(auto)]
+
 pub mod articles;

@@ -12,7 +12,7 @@ returns-in-Broken g c =
 pub loop-article-preserved : goal.loop-article-preserved
 loop-article-preserved g c =
     let within : c.loop-article.article < (g.B.Book.meaning c.args.book.now).count + 1 = omega arith in
-    c.loop-article.invariant ∙ lowest_goes _ _ _ within (λ s is. c.in-default.not-Broken s (c.finding.ensures.finds_by_its_meaning ∙ is))
+    c.loop-article.invariant ∙ lowest_goes _ _ _ within (λ s is. c.in_default.not-Broken s (c.finding.ensures.finds_by_its_meaning ∙ is))
 
 pub returns : goal.returns
 returns g c =

@@ -1,4 +1,4 @@
-use Rattle.std.proofs.Common.{◌≡◌, ◌+◌, ◌-◌, ◌≤◌}
+use Rattle.std.proofs.Common.{◌≡◌, ◌+◌, ◌-◌}
 use Rattle.books.specs.Verdicts.{lowest}
 use Rattle.books.proofs.judgement.lowest_broken.Given as goal
 

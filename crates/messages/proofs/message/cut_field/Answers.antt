@@ -1,5 +1,5 @@
-use Rattle.std.proofs.Common.{◌-◌, ◌≤◌, length, take, drop, sym, ap, ◌∙◌, arith, rules}
-use Rattle.std.proofs.lemmas.List.{take_rest, length-drop}
+use Rattle.std.proofs.Common.{◌≤◌, length, take, drop, ap, ◌∙◌, arith, rules}
+use Rattle.std.proofs.lemmas.List.{take_rest}
 use Rattle.messages.proofs.Cuts.{cut_whole}
 use Rattle.messages.proofs.message.cut_field.Goals as goal
 

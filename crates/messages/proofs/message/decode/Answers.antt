@@ -8,7 +8,7 @@ returns c =
     let is = c.read_message.ensures.sheet_or_first_fault in
     record {
       sheet_or_first_fault = is;
-      accepted_bytes_are_the_sheets_message = accepted _ _ (λ i. (c.type-inv.message i).fits) is;
-      refused_where_it_is_at_fault = refused_at _ _ (λ i. (c.type-inv.message i).fits) is;
+      accepted_bytes_are_the_sheets_message = accepted _ _ (λ i. (c.type_inv.message i).fits) is;
+      refused_where_it_is_at_fault = refused_at _ _ (λ i. (c.type_inv.message i).fits) is;
       lawful_sheets_read_back = reads_back;
     }

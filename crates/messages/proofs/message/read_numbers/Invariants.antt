@@ -1,4 +1,4 @@
-use Rattle.std.proofs.Common.{◌≡◌, ◌≤◌, length, take, drop}
+use Rattle.std.proofs.Common.{◌≡◌, length, take, drop}
 use Rattle.messages.specs.Messages.{numbers_due}
 use Rattle.messages.proofs.Numbers.{behind}
 use Rattle.messages.proofs.message.read_numbers.Given as goal

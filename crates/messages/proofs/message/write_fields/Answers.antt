@@ -10,7 +10,7 @@ loop-i-preserved g c =
     let i = c.loop-i.i in
     let room : 4 ≤ length c.args.buffer.now = omega arith in
     filled_more c.args.buffer.now c.args.numbers.now i c.loop-i-test.true room c.loop-i.buffer _ _ c.loop-i.invariant
-    c.number-field-bytes.ensures.field_of_the_number
+    c.number_field-bytes.ensures.field_of_the_number
     c.put_at.ensures.the_rest_is_untouched
 
 pub returns : goal.returns
