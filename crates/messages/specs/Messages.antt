@@ -1,4 +1,4 @@
--- A message is a run of fields, each a one_byte tag, a two_byte length and that many bytes, high byte first.
+-- A message is a run of fields, each a one-byte tag, a two-byte length and that many bytes, high byte first.
 -- The first field has tag 1 and one byte, the kind; the sheet's numbers follow in order, four bytes each, with tags
 -- 16, 17 and so on. Here stand the message of each sheet, and what every byte string reads as. Assumes nothing.
 use Rattle.std.specs.Prelude.{◌≡◌, ℕ, ◌+◌, ◌*◌, ◌/◌, ◌%◌, Bool, true, cond, ◌&&◌, List, [], ◌∷◌, ◌++◌, length, take, drop, Some, None, Ok, Err, Option, Result, ◌==◌, nat_le}

@@ -1,4 +1,4 @@
-// Messages: a run of fields, each a one_byte tag, a two_byte length and that many bytes, high byte first. The first
+// Messages: a run of fields, each a one-byte tag, a two-byte length and that many bytes, high byte first. The first
 // field, tag 1, has one byte, the kind; the sheet's numbers follow in order, four bytes each, tags 16, 17 and so on.
 ghost use Rattle.std.specs.Prelude.{◌≡◌, ◌+◌, ◌*◌, ◌≤◌, true, [], ◌∷◌, ◌++◌, length, take, drop, IfOk, IfErr, Ok, Err, MatchResult};
 ghost use Rattle.sheets.specs.declared.sheet.Sheet.{Sheet};
