@@ -1,0 +1,4 @@
+pub mod Summing
+pub mod Moved
+pub mod Performed
+pub mod Opened

@@ -1,0 +1,16 @@
+use Rattle.law.specs.Histories as acts
+use Rattle.std.proofs.Common.{ap}
+use Rattle.law.specs.Laws.{renamed}
+use Rattle.law.specs.declared.answers.Answer.TheVariants.{InHand}
+use Rattle.law.proofs.Runs.{keeps_the_law}
+use Rattle.law.proofs.Ends.{stays_in_step, put_back_empties}
+use Rattle.jobs.proofs.calls.put_back.Goals as goal
+
+pub returns-clause-keeps_the_law : goal.returns-clause-keeps_the_law
+returns-clause-keeps_the_law c p = keeps_the_law p _ _ _ _ _ (ap (renamed InHand) c.put_back_shear.ensures.answers_by_its_grounds) c.put_back_shear.ensures.state_by_its_definition
+
+pub returns-clause-hand_stays_in_step : goal.returns-clause-hand_stays_in_step
+returns-clause-hand_stays_in_step c p = stays_in_step p acts.put_back _ _ _ _ c.put_back_shear.ensures.state_by_its_definition c.put_back_shear.ensures.hand_by_its_definition
+
+pub returns-clause-put_back_leaves_no_shear : goal.returns-clause-put_back_leaves_no_shear
+returns-clause-put_back_leaves_no_shear c p = put_back_empties p acts.put_back _ _ _ c.put_back_shear.ensures.hand_by_its_definition
