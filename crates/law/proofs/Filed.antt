@@ -1,7 +1,7 @@
 -- A register whose rows past the end are zeros: what finding, filing, replacing and closing up make of the rows filed.
 -- Assumes nothing.
 use Rattle.std.proofs.Common.{◌≡◌, ℕ, zero, suc, ◌+◌, true, false, cond, eqb, List, [], ◌∷◌, ◌++◌, map, length, replicate, Some, None, Option, sym, refl, ap, ◌∙◌, subst, arith}
-use Rattle.std.specs.List.{AllByRecursion as All}
+use Rattle.std.specs.List.{AllByRecursion as Each}
 use Rattle.std.proofs.lemmas.Bool.{cond_both, cond-true, cond-false, eqb-true, eqb-false}
 use Rattle.registers.specs.Forms.{Form}
 use Rattle.registers.specs.Registers.{free, filed, ending_from, find_from, moved_up, closed_up}
@@ -9,7 +9,7 @@ use Rattle.law.proofs.Marks.{Absent}
 
 -- no row is free
 abbrev pub Marked : {R M : Type 0} → Form R M → List R → Type 0
-Marked form rows = All (λ r. free form r ≡ false) rows
+Marked form rows = Each (λ r. free form r ≡ false) rows
 
 module _ {R M : Type 0} (form : Form R M) (zeros : free form form.blank ≡ true) where
   -- the rows filed are those before the zeros

@@ -1,6 +1,6 @@
 -- How entering, withdrawing, judging and a change of shear keep a register sound. Assumes nothing.
 use Rattle.std.proofs.Common.{◌≡◌, ℕ, suc, ◌+◌, ◌-◌, ◌<◌, Bool, true, false, not, ◌&&◌, eqb, leb, List, [], ◌∷◌, ◌++◌, map, length, set, replicate, is_some, Some, Option, sym, refl, ap, ◌∙◌, subst, ⊎_elim, arith}
-use Rattle.std.specs.List.{AllByRecursion as All}
+use Rattle.std.specs.List.{AllByRecursion as Each}
 use Rattle.std.proofs.ByRecursion.{All-weaker, All-append, All-push}
 use Rattle.std.proofs.lemmas.List.{append_assoc, set_at, map-append, map_push, length-append, length-replicate}
 use Rattle.std.proofs.lemmas.Bool.{cond-true, cond-false, eq-eqb, ne_eqb, leb-false, and_from, and_right, or_left, not-true, not-false, both_ways}
@@ -25,19 +25,19 @@ use Rattle.law.proofs.Decisions.{decide_cases}
 use Rattle.law.proofs.Sound.{FormLaws, Sound, Stand, there, nowhere, marked, stand, spelled_at, marks_at, later_absent, dropped_none, judged_still, judged_now, judged_no_more, stands_same, stands_not}
 
 -- what holds of each row holds, changed, of each that has another mark
-pub all_others : {R : Type 0} (mark : R → ℕ) (m : ℕ) (P Q : R → Type 0) → ((r : R) → (mark r ≡ m → ⊥) → P r → Q r) → (rows : List R) → Absent m (map mark rows) → All P rows → All Q rows
+pub all_others : {R : Type 0} (mark : R → ℕ) (m : ℕ) (P Q : R → Type 0) → ((r : R) → (mark r ≡ m → ⊥) → P r → Q r) → (rows : List R) → Absent m (map mark rows) → Each P rows → Each Q rows
 all_others mark m P Q change [] absent h = tt
 all_others mark m P Q change (r ∷ rows) absent h = (change r absent.0 h.0, all_others mark m P Q change rows absent.1 h.1)
 
 -- the first sheet that is withdrawn
-pub dropped_at : {R M : Type 0} (form : Form R M) (test : ℕ → Bool) → ((r : R) → mark_on (form.sheet r) ≡ form.mark r) → (before : List R) (r : R) (after : List R) → All (λ b. test (form.mark b) ≡ false) before → test (form.mark r) ≡ true → dropped test (map form.sheet (before ++ r ∷ after)) ≡ map form.sheet (before ++ after)
+pub dropped_at : {R M : Type 0} (form : Form R M) (test : ℕ → Bool) → ((r : R) → mark_on (form.sheet r) ≡ form.mark r) → (before : List R) (r : R) (after : List R) → Each (λ b. test (form.mark b) ≡ false) before → test (form.mark r) ≡ true → dropped test (map form.sheet (before ++ r ∷ after)) ≡ map form.sheet (before ++ after)
 dropped_at form test marks [] r after none this = cond-true (test (mark_on (form.sheet r))) (map form.sheet after) (form.sheet r ∷ dropped test (map form.sheet after)) (ap test (marks r) ∙ this)
 dropped_at form test marks (b ∷ before) r after none this =
     cond-false (test (mark_on (form.sheet b))) (map form.sheet (before ++ r ∷ after)) (form.sheet b ∷ dropped test (map form.sheet (before ++ r ∷ after))) (ap test (marks b) ∙ none.0)
     ∙ ap (λ rest. form.sheet b ∷ rest) (dropped_at form test marks before r after none.1 this)
 
 -- rows without the mark are not withdrawn
-pub none_withdrawn : {R : Type 0} (kind : Kind) (e : Event) (m : ℕ) (mark : R → ℕ) → ((j : ℕ) → (accepted e.answer && withdraws kind j e.act) ≡ eqb m j) → (before : List R) → Absent m (map mark before) → All (λ b. (accepted e.answer && withdraws kind (mark b) e.act) ≡ false) before
+pub none_withdrawn : {R : Type 0} (kind : Kind) (e : Event) (m : ℕ) (mark : R → ℕ) → ((j : ℕ) → (accepted e.answer && withdraws kind j e.act) ≡ eqb m j) → (before : List R) → Absent m (map mark before) → Each (λ b. (accepted e.answer && withdraws kind (mark b) e.act) ≡ false) before
 none_withdrawn kind e m mark withdrawing [] absent = tt
 none_withdrawn kind e m mark withdrawing (b ∷ before) absent = (withdrawing (mark b) ∙ ne_eqb m (mark b) (λ same. absent.0 (sym same)), none_withdrawn kind e m mark withdrawing before absent.1)
 
@@ -118,8 +118,8 @@ module _ {R M : Type 0} {form : Form R M} {lawful : M → Bool} {book : Meaning 
       let P : R → Type 0 = StandsWhereEarned form book (λ mark. judged_since kind mark h) in
       let Q : R → Type 0 = StandsWhereEarned form book (λ mark. judged_since kind mark (e ∷ h)) in
       let L : R → Type 0 = λ r. lawful (form.member r) ≡ true in
-      let laws_at : All L (at.before ++ at.row ∷ at.after) = subst (All L) at.spelled s.lawfuls in
-      let certs_at : All P (at.before ++ at.row ∷ at.after) = subst (All P) at.spelled s.certificates in
+      let laws_at : Each L (at.before ++ at.row ∷ at.after) = subst (Each L) at.spelled s.lawfuls in
+      let certs_at : Each P (at.before ++ at.row ∷ at.after) = subst (Each P) at.spelled s.certificates in
       let change : (r : R) → (form.mark r ≡ m → ⊥) → P r → Q r = λ r ne p. stands_same (other (form.mark r) ne) p in
       record {
         members = at.before ++ v ∷ at.after;
@@ -150,10 +150,10 @@ module _ {R M : Type 0} {form : Form R M} {lawful : M → Bool} {book : Meaning 
 
   -- the facts of the row at a mark
   pub row_lawful : {m : ℕ} (s : Sound form lawful book kind h rows) (at : At form m s.members) → lawful (form.member at.row) ≡ true
-  row_lawful s at = (all_back (λ r. lawful (form.member r) ≡ true) at.before (at.row ∷ at.after) (subst (All (λ r. lawful (form.member r) ≡ true)) at.spelled s.lawfuls)).0
+  row_lawful s at = (all_back (λ r. lawful (form.member r) ≡ true) at.before (at.row ∷ at.after) (subst (Each (λ r. lawful (form.member r) ≡ true)) at.spelled s.lawfuls)).0
 
   pub row_stands : {m : ℕ} (s : Sound form lawful book kind h rows) (at : At form m s.members) → StandsWhereEarned form book (λ mark. judged_since kind mark h) at.row
-  row_stands s at = (all_back (StandsWhereEarned form book (λ mark. judged_since kind mark h)) at.before (at.row ∷ at.after) (subst (All (StandsWhereEarned form book (λ mark. judged_since kind mark h))) at.spelled s.certificates)).0
+  row_stands s at = (all_back (StandsWhereEarned form book (λ mark. judged_since kind mark h)) at.before (at.row ∷ at.after) (subst (Each (StandsWhereEarned form book (λ mark. judged_since kind mark h))) at.spelled s.certificates)).0
 
   -- a row is taken out
   abbrev pub sound_withdrawn : {e : Event} {m : ℕ} → FormLaws form lawful kind → (s : Sound form lawful book kind h rows) (at : At form m s.members) → ((j : ℕ) → judged_since kind j (e ∷ h) ≡ judged_since kind j h) → joined kind (entered_by e) (standing kind h) ≡ standing kind h → ((j : ℕ) → (accepted e.answer && withdraws kind j e.act) ≡ eqb m j) → Sound form lawful book kind (e ∷ h) (closed_up form (length at.before) rows)
@@ -161,9 +161,9 @@ module _ {R M : Type 0} {form : Form R M} {lawful : M → Bool} {book : Meaning 
       let P : R → Type 0 = StandsWhereEarned form book (λ mark. judged_since kind mark h) in
       let Q : R → Type 0 = StandsWhereEarned form book (λ mark. judged_since kind mark (e ∷ h)) in
       let L : R → Type 0 = λ r. lawful (form.member r) ≡ true in
-      let laws_at : All L (at.before ++ at.row ∷ at.after) = subst (All L) at.spelled s.lawfuls in
-      let laws_after : All L at.after = (all_back L at.before (at.row ∷ at.after) laws_at).1 in
-      let certs_at : All P (at.before ++ at.row ∷ at.after) = subst (All P) at.spelled s.certificates in
+      let laws_at : Each L (at.before ++ at.row ∷ at.after) = subst (Each L) at.spelled s.lawfuls in
+      let laws_after : Each L at.after = (all_back L at.before (at.row ∷ at.after) laws_at).1 in
+      let certs_at : Each P (at.before ++ at.row ∷ at.after) = subst (Each P) at.spelled s.certificates in
       let change : (r : R) → P r → Q r = λ r p. stands_same (same (form.mark r)) p in
       let test : ℕ → Bool = λ j. accepted e.answer && withdraws kind j e.act in
       record {

@@ -1,14 +1,14 @@
 -- Lists of distinct marks, and what holds of some element of a list. Assumes nothing.
 use Rattle.std.proofs.Common.{◌≡◌, ℕ, ◌⊎◌, List, [], ◌∷◌, ◌++◌, sym, inl, inr, ⊎_elim}
-use Rattle.std.specs.List.{AllByRecursion as All}
+use Rattle.std.specs.List.{AllByRecursion as Each}
 use Rattle.std.proofs.ByRecursion.{All-append, All-push}
 
 -- what holds of each of two lists joined holds of each
-pub all_front : {X : Type 0} (P : X → Type 0) (xs ys : List X) → All P (xs ++ ys) → All P xs
+pub all_front : {X : Type 0} (P : X → Type 0) (xs ys : List X) → Each P (xs ++ ys) → Each P xs
 all_front P [] ys h = tt
 all_front P (x ∷ xs) ys h = (h.0, all_front P xs ys h.1)
 
-pub all_back : {X : Type 0} (P : X → Type 0) (xs ys : List X) → All P (xs ++ ys) → All P ys
+pub all_back : {X : Type 0} (P : X → Type 0) (xs ys : List X) → Each P (xs ++ ys) → Each P ys
 all_back P [] ys h = h
 all_back P (x ∷ xs) ys h = all_back P xs ys h.1
 
@@ -41,7 +41,7 @@ any_out P (x ∷ xs) y ys none h = ⊎_elim inl (λ later. inr (any_out P xs y y
 
 -- the mark is on none of these
 abbrev pub Absent : ℕ → List ℕ → Type 0
-Absent m ms = All (λ k. k ≡ m → ⊥) ms
+Absent m ms = Each (λ k. k ≡ m → ⊥) ms
 
 -- no mark is there twice
 abbrev pub Distinct : List ℕ → Type 0

@@ -1,6 +1,6 @@
 -- How lift, place and put back keep a job. Assumes nothing.
 use Rattle.std.proofs.Common.{◌≡◌, ℕ, ◌+◌, ◌-◌, ◌*◌, ◌≤◌, Bool, true, false, cond, not, ◌&&◌, eqb, ltb, List, [], ◌∷◌, ◌++◌, map, length, set, is_some, Some, None, Ok, sym, refl, ap, ◌∙◌, subst, ⊎_elim, zero-add, arith}
-use Rattle.std.specs.List.{AllByRecursion as All}
+use Rattle.std.specs.List.{AllByRecursion as Each}
 use Rattle.std.proofs.lemmas.List.{length-set, map-append}
 use Rattle.std.proofs.lemmas.Bool.{cond_both, and_parts, or_parts, or_right, eq-eqb, ne_eqb, eqb-true, eqb-false, ltb-false, le-ltb, not-false}
 use Rattle.tables.specs.declared.codes.Kind.{Kind}
@@ -28,17 +28,17 @@ use Rattle.law.proofs.Shear.{walls_of, storey_at, Balanced, balanced_swap, noted
 use Rattle.law.proofs.Jobs.{SoundJob, sized_walls, After, refused_sound}
 
 -- what holds of none does not hold of some
-any_none : {X : Type 0} (P : X → Type 0) (xs : List X) → All (λ x. P x → ⊥) xs → Any P xs → ⊥
+any_none : {X : Type 0} (P : X → Type 0) (xs : List X) → Each (λ x. P x → ⊥) xs → Any P xs → ⊥
 any_none P [] all any = any
 any_none P (x ∷ xs) all any = ⊎_elim (λ p. all.0 p) (λ later. any_none P xs all.1 later) any
 
 -- what holds of some element, and of none of the others, holds of this one
-any_only : {X : Type 0} (P : X → Type 0) (xs : List X) (y : X) (ys : List X) → All (λ x. P x → ⊥) xs → All (λ x. P x → ⊥) ys → Any P (xs ++ y ∷ ys) → P y
+any_only : {X : Type 0} (P : X → Type 0) (xs : List X) (y : X) (ys : List X) → Each (λ x. P x → ⊥) xs → Each (λ x. P x → ⊥) ys → Any P (xs ++ y ∷ ys) → P y
 any_only P [] y ys no-before no-after h = ⊎_elim (λ p. p) (λ later. absurd (any_none P ys no-after later)) h
 any_only P (x ∷ xs) y ys no-before no-after h = ⊎_elim (λ p. absurd (no-before.0 p)) (λ later. any_only P xs y ys no-before.1 no-after later) h
 
 -- rows without the noted mark do not back the note
-unbacked : (note : Note) (m : ℕ) → m ≡ note.wall → (rows : List WallRow) → Absent m (map wall_form.mark rows) → All (λ w. Backed note w → ⊥) (walls_of rows)
+unbacked : (note : Note) (m : ℕ) → m ≡ note.wall → (rows : List WallRow) → Absent m (map wall_form.mark rows) → Each (λ w. Backed note w → ⊥) (walls_of rows)
 unbacked note m same [] absent = tt
 unbacked note m same (r ∷ rows) absent = (λ back. absent.0 (back.is ∙ sym same), unbacked note m same rows absent.1)
 

@@ -1,6 +1,6 @@
 -- The law holds after every run. Assumes nothing.
 use Rattle.std.proofs.Common.{◌≡◌, ℕ, ◌+◌, ◌*◌, ◌≤◌, true, not, ◌&&◌, eqb, List, [], ◌∷◌, Ok, Result, sym, refl, ap, ◌∙◌, subst, arith}
-use Rattle.std.specs.List.{AllByRecursion as All}
+use Rattle.std.specs.List.{AllByRecursion as Each}
 use Rattle.std.proofs.ByRecursion.{All-weaker}
 use Rattle.std.proofs.lemmas.Bool.{cond-false, and_parts, and_from, or_from, eq-eqb, ne_eqb}
 use Rattle.tables.specs.declared.codes.Kind.TheVariants as kinds
@@ -82,9 +82,9 @@ module _ {p : Piles} {h : History} {s : State} (j : SoundJob p h s) where
       ∙ (ap (λ x. Ok (Tallied (record { carried = sum_on (λ w. w.carried) t s.walls; in_hand = x; sheets = sum_on (λ w. w.sheet.shear) t s.walls }))) (sym (j.held t))
       ∙ ap (λ x. Ok (Tallied (record { carried = sum_on (λ w. w.carried) t s.walls; in_hand = in_hand t h; sheets = x }))) (sheet_sum t))
 
-  floor_kept : All (λ w. 7 * w.sheet.shear ≤ 10 * w.carried) (filed wall_form s.walls)
+  floor_kept : Each (λ w. 7 * w.sheet.shear ≤ 10 * w.carried) (filed wall_form s.walls)
   floor_kept =
-      subst (All (λ w. 7 * w.sheet.shear ≤ 10 * w.carried)) (sym (ap (filed wall_form) j.walls.spelled ∙ filed_spare wall_form refl j.walls.members j.walls.spare (marked wall_laws j.walls.members j.walls.lawfuls)))
+      subst (Each (λ w. 7 * w.sheet.shear ≤ 10 * w.carried)) (sym (ap (filed wall_form) j.walls.spelled ∙ filed_spare wall_form refl j.walls.members j.walls.spare (marked wall_laws j.walls.members j.walls.lawfuls)))
       (All-weaker (λ r. lawful_wall (wall_form.member r) ≡ true) (λ w. 7 * w.sheet.shear ≤ 10 * w.carried) (λ r law. wall_floor (wall_form.member r) law) j.walls.members j.walls.lawfuls)
 
   back_kept : 1 ≤ s.note.newtons → (step p put_back s.note s).answer ≡ Ok (InHand 0)

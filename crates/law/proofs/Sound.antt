@@ -1,6 +1,6 @@
 -- What the register of one kind has in every reached job, and how a call keeps it. Assumes nothing.
 use Rattle.std.proofs.Common.{◌≡◌, ℕ, Bool, true, false, cond, ◌&&◌, ◌||◌, eqb, leb, List, [], ◌∷◌, ◌++◌, map, length, get_or, replicate, Some, None, Option, sym, refl, ap, ◌∙◌, subst, arith}
-use Rattle.std.specs.List.{AllByRecursion as All}
+use Rattle.std.specs.List.{AllByRecursion as Each}
 use Rattle.std.proofs.ByRecursion.{All-weaker}
 use Rattle.std.proofs.lemmas.List.{append_assoc, get_or_at, map-append}
 use Rattle.std.proofs.lemmas.Bool.{cond-true, cond-false, ne_eqb, leb-true, and_parts, or_from}
@@ -34,15 +34,15 @@ pub record Sound {R M : Type 0} (form : Form R M) (lawful : M → Bool) (book : 
   pub members : List R
   pub spare : ℕ
   pub spelled : rows ≡ members ++ replicate spare form.blank
-  pub lawfuls : All (λ r. lawful (form.member r) ≡ true) members
+  pub lawfuls : Each (λ r. lawful (form.member r) ≡ true) members
   pub distinct : Distinct (map form.mark members)
-  pub certificates : All (StandsWhereEarned form book (λ mark. judged_since kind mark h)) members
+  pub certificates : Each (StandsWhereEarned form book (λ mark. judged_since kind mark h)) members
   pub sheets : map form.sheet members ≡ standing kind h
 
 pub marked_one : (n : ℕ) → is_mark n ≡ true → eqb n 0 ≡ false
 marked_one n h = ne_eqb n 0 (λ e. absurd (omega (arith, leb-true 1 n (and_parts (leb 1 n) (leb n 65535) h).0)))
 
-pub marked : {R M : Type 0} {form : Form R M} {lawful : M → Bool} {kind : Kind} → FormLaws form lawful kind → (rows : List R) → All (λ r. lawful (form.member r) ≡ true) rows → Marked form rows
+pub marked : {R M : Type 0} {form : Form R M} {lawful : M → Bool} {kind : Kind} → FormLaws form lawful kind → (rows : List R) → Each (λ r. lawful (form.member r) ≡ true) rows → Marked form rows
 marked {form = form} {lawful} laws rows h = All-weaker (λ r. lawful (form.member r) ≡ true) (λ r. free form r ≡ false) (λ r e. marked_one (form.mark r) (laws.marks r e)) rows h
 
 -- What an event does not do to a kind.
@@ -106,7 +106,7 @@ module _ {R M : Type 0} {form : Form R M} {lawful : M → Bool} {book : Meaning 
   kept_register measure laws named s =
       let filed_is : filed form rows ≡ s.members = ap (filed form) s.spelled ∙ filed_spare form laws.zeros s.members s.spare (marked laws s.members s.lawfuls) in
       record {
-        certificates = subst (All (StandsWhereEarned form book (λ mark. judged_since kind mark h))) (sym filed_is) s.certificates;
+        certificates = subst (Each (StandsWhereEarned form book (λ mark. judged_since kind mark h))) (sym filed_is) s.certificates;
         sheets = ap (map form.sheet) filed_is ∙ s.sheets;
         named = named;
       }

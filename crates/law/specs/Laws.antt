@@ -1,6 +1,6 @@
 -- The law over every run of a job, in the words of its subject. Assumes nothing.
 use Rattle.std.specs.Prelude.{◌≡◌, ℕ, ◌+◌, ◌*◌, ◌≤◌, Bool, true, List, [], ◌∷◌, map, Ok, Err, Option, Result}
-use Rattle.std.specs.List.{AllByRecursion as All}
+use Rattle.std.specs.List.{AllByRecursion as Each}
 use Rattle.tables.specs.declared.codes.Kind.{Kind}
 use Rattle.tables.specs.declared.codes.Kind.TheVariants as kinds
 use Rattle.tables.specs.declared.codes.Quantity.{Quantity}
@@ -78,7 +78,7 @@ pub record StandsWhereEarned {R M : Type 0} (form : Form R M) (book : Meaning M)
 -- what is kept of the register of one kind
 pub record KeptRegister {R M : Type 0} (form : Form R M) (lawful : M → Bool) (measure : M → Quantity → Option ℕ) (book : Meaning M) (kind : Kind) (h : History) (rows : List R) : Type 0 where
   -- certificates stand exactly where they are earned
-  pub certificates : All (StandsWhereEarned form book (λ mark. judged_since kind mark h)) (filed form rows)
+  pub certificates : Each (StandsWhereEarned form book (λ mark. judged_since kind mark h)) (filed form rows)
   -- the sheets filed are those entered and not withdrawn, in order
   pub sheets : map form.sheet (filed form rows) ≡ standing kind h
   -- an article named is named still, both sides alike, behind any specifications that still take the member
@@ -94,7 +94,7 @@ pub record Kept (p : Piles) (h : History) (s : State) : Type 0 where
   -- tally answers these three sums
   pub tallies : (storey : ℕ) (hand : Note) → is_storey storey ≡ true → (step p (tally storey) hand s).answer ≡ Ok (Tallied (record { carried = sum_on (λ w. w.carried) storey s.walls; in_hand = in_hand storey h; sheets = sheets_shear storey (standing kinds.Wall h) }))
   -- each wall carries at least seven tenths of its sheet's shear
-  pub seven_tenths : All (λ w. 7 * w.sheet.shear ≤ 10 * w.carried) (filed wall_form s.walls)
+  pub seven_tenths : Each (λ w. 7 * w.sheet.shear ≤ 10 * w.carried) (filed wall_form s.walls)
   -- shear in hand by the job's note can be put back
   pub goes_back : 1 ≤ s.note.newtons → (step p put_back s.note s).answer ≡ Ok (InHand 0)
 
