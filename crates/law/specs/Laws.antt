@@ -26,6 +26,7 @@ abbrev pub renamed : {A B : Type 0} → (A → B) → Result A JobFault → Resu
 renamed name (Ok a) = Ok (name a)
 renamed name (Err e) = Err e
 
+-- what one call does as what any does
 abbrev pub answering : {A : Type 0} → (A → Answer) → Outcome A → Outcome Answer
 answering name o = record { answer = renamed name o.answer; state = o.state; hand = o.hand }
 

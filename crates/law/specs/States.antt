@@ -52,6 +52,7 @@ same_note a b = a.job == b.job && a.wall == b.wall && a.storey == b.storey && a.
 abbrev pub is_mark : ℕ → Bool
 is_mark n = nat_le 1 n && nat_le n 65535
 
+-- storeys of a building
 abbrev pub is_storey : ℕ → Bool
 is_storey n = nat_le 1 n && nat_le n 40
 
@@ -71,9 +72,11 @@ are_sized s = is_size (length s.beams) && is_size (length s.columns) && is_size 
 abbrev pub with_beams : State → List BeamRow → State
 with_beams s rows = record { number = s.number; note = s.note; beams = rows; columns = s.columns; walls = s.walls }
 
+-- the same for columns
 abbrev pub with_columns : State → List ColumnRow → State
 with_columns s rows = record { number = s.number; note = s.note; beams = s.beams; columns = rows; walls = s.walls }
 
+-- the same for walls
 abbrev pub with_walls : State → List WallRow → State
 with_walls s rows = record { number = s.number; note = s.note; beams = s.beams; columns = s.columns; walls = rows }
 

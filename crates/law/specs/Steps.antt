@@ -29,9 +29,11 @@ use Rattle.law.specs.declared.answers.Sums.{Sums}
 abbrev pub on_beams : {A : Type 0} → State → Note → Filing BeamRow A → Outcome A
 on_beams s hand filing = record { answer = filing.answer; state = with_beams s filing.rows; hand = hand }
 
+-- the same for columns
 abbrev pub on_columns : {A : Type 0} → State → Note → Filing ColumnRow A → Outcome A
 on_columns s hand filing = record { answer = filing.answer; state = with_columns s filing.rows; hand = hand }
 
+-- the same for walls
 abbrev pub on_walls : {A : Type 0} → State → Note → Filing WallRow A → Outcome A
 on_walls s hand filing = record { answer = filing.answer; state = with_walls s filing.rows; hand = hand }
 

@@ -52,8 +52,8 @@ pub fn judge_row<M: Member + Copy, R: Row<M>, B: Book<M>>(
     Ok(found)
 }
 
-// Puts the message of the sheet on the row with this mark at the buffer's front, and answers its length: refused where
-// there is no such row (S3), then where it is unlawful (S4), then where the buffer is too short (I6).
+// Puts at the buffer's front the message of the sheet that is on the row with this mark, and answers its length: refused
+// where there is no such row (S3), then where it is unlawful (S4), then where the buffer is too short (I6).
 pub fn write_row<M: Member + Copy, R: Row<M>>(
     register: &[R],
     mark: u32,

@@ -54,7 +54,8 @@ pub fn append<M: Member, R: Row<M>>(register: &mut [R], row: R) -> Result<(), Jo
     Ok(())
 }
 
-// Takes out the row at this place: later rows move up to the register's end, and the freed row becomes zeros.
+// Takes out the row at this place: later rows move up to the register's end, and the freed row becomes zeros. A place past
+// the last row leaves every row as it was.
 pub fn close_up<M: Member, R: Row<M>>(register: &mut [R], at: usize)
     ensures later_rows_move_up { register.new ≡ closed_up R.Row.form at register.old }
 {

@@ -1,6 +1,6 @@
 // One task from start to end: a beam and two walls are entered and judged, shear is moved from one wall to the other and
-// the rest put back, a sheet's message is written, and the beam is withdrawn. Each call's answer is printed. The hand is
-// empty on every way out.
+// the rest put back, a wall whose shear moved is not withdrawn, the beam is, and a sheet's message is written. Each call's
+// answer is printed. The hand is empty on every way out.
 #![tactic(auto)]
 
 ghost use Rattle.std.specs.Prelude.{◌≡◌, None};

@@ -1,5 +1,4 @@
-// Trials of the calls where no run from an opening leads: rows that are unlawful, rows past the first of mark 0, registers
-// of no rows and of too many, hands of another job, and the bounds of what a wall may carry.
+// Trials of the calls where no run from an opening leads: rows that are unlawful.
 #![tactic(auto)]
 
 #[cfg(test)]

@@ -1,51 +1,21 @@
 // Each trial lends registers, sets rows as no call would, and compares what the calls answer and leave.
 use beams::articles::BeamBook;
-use books::answers::Verdict;
-use cases::{worked_beam, worked_wall};
+use cases::worked_wall;
 use columns::articles::ColumnBook;
 use faults::fault::{JobFault, Origin};
-use jobs::calls::{enter, judge, lift, open, place, put_back, tally, withdraw, write};
+use jobs::calls::{judge, lift, open, place, put_back, write};
 use jobs::hand::Hand;
 use jobs::lent::{Piles, Registers};
-use law::answers::Sums;
-use messages::message::encode;
 use registers::row::Row;
 use registers::rows::{BeamRow, ColumnRow, WallRow};
-use sheets::sheet::{Sheet, WallSheet};
 use std::test::Fail;
 use walls::articles::WallBook;
 
-// The numbers that stand for the kinds.
-const BEAM: u32 = 1;
-
+// The number that stands for a wall.
 const WALL: u32 = 3;
 
-// Grounds of refusal, as `number_of` gives them.
-const I6: u32 = 6;
-
-const S1: u32 = 101;
-
-const S2: u32 = 102;
-
-const S3: u32 = 103;
-
+// A ground of refusal, as `number_of` gives it.
 const S4: u32 = 104;
-
-const S5: u32 = 105;
-
-const S6: u32 = 106;
-
-const S7: u32 = 107;
-
-const S8: u32 = 108;
-
-const S9: u32 = 109;
-
-const S10: u32 = 110;
-
-const S11: u32 = 111;
-
-const S12: u32 = 112;
 
 // The number of a refusal, with 100 added where it comes from the state; 0 where nothing was refused.
 fn number_of<T: Drop>(answer: Result<T, JobFault>) -> u32 {
@@ -59,11 +29,6 @@ fn number_of<T: Drop>(answer: Result<T, JobFault>) -> u32 {
             }
         }
     }
-}
-
-// Whether the answer is a certificate.
-fn is_certificate(answer: Result<Verdict, JobFault>) -> bool {
-    matches!(answer, Ok(Verdict::Certificate))
 }
 
 // The books, bare.
