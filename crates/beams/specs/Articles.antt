@@ -1,5 +1,5 @@
 -- The beam book: what each article compares. Assumes nothing.
-use Rattle.std.specs.Prelude.{true, cond, List, [], ◌∷◌, ℕ, ◌+◌, ◌*◌, ◌≤◌, max, min, eqb, ltb}
+use Rattle.std.specs.Prelude.{true, if◌then◌else◌, List, [], ◌∷◌, ℕ, ◌+◌, ◌*◌, ◌≤◌, ◌==◌, max, min, nat_lt}
 use Rattle.sheets.specs.declared.sheet.BeamSheet.{BeamSheet}
 use Rattle.books.specs.Findings.{at_least, at_most}
 use Rattle.books.specs.Meanings.{Meaning}
@@ -10,23 +10,27 @@ use Rattle.books.specs.Numbered.{numbered}
 use Rattle.beams.specs.declared.articles.BeamSizes.{BeamSizes}
 use Rattle.members.specs.declared.member.Beam.{Beam}
 
--- the areas of the top and the bottom bars, of the face bars on one side, and of one stirrup bar
+-- the area of the top bars
 abbrev pub top_area : BeamSheet → ℕ
 top_area b = area_of_bars b.top
 
+-- the area of the bottom bars
 abbrev pub bottom_area : BeamSheet → ℕ
 bottom_area b = area_of_bars b.bottom
 
+-- the area of the face bars on one side
 abbrev pub face_area : BeamSheet → ℕ
 face_area b = area_of_bars b.face
 
+-- the area of one stirrup bar
 abbrev pub stirrup_area : BeamSheet → ℕ
 stirrup_area b = area b.stirrups.diameter
 
--- the greater and the smaller of the top and the bottom area
+-- the greater of the top and the bottom area
 abbrev pub greater_area : BeamSheet → ℕ
 greater_area b = max (top_area b) (bottom_area b)
 
+-- the smaller of them
 abbrev pub smaller_area : BeamSheet → ℕ
 smaller_area b = min (top_area b) (bottom_area b)
 
@@ -68,11 +72,12 @@ most_shear b = at_most (13500000 * b.shear) (95 * borne_shear b)
 
 -- the share of the borne shear above which 5.6.1.5 applies, by concrete type
 abbrev pub face_share : ℕ → ℕ
-face_share concrete = cond (eqb concrete 17) 40 47
+face_share concrete = if concrete == 17 then 40 else 47
 
 -- 5.6.1.5: under high shear the faces have a share of the greater area, by zone
 abbrev pub least_face_area : BeamSheet → Finding
-least_face_area b = cond (ltb (face_share b.heading.concrete * borne_shear b) (13500000 * b.shear)) (at_least (face_area b * b.heading.zone) (15 * greater_area b)) NotApplicable
+least_face_area b =
+    if nat_lt (face_share b.heading.concrete * borne_shear b) (13500000 * b.shear) then at_least (face_area b * b.heading.zone) (15 * greater_area b) else NotApplicable
 
 -- the articles in the order of the book
 abbrev pub beam_articles : BeamSheet → List Finding

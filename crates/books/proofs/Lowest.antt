@@ -16,10 +16,10 @@ abbrev Free : Finding → Type 0
 Free x = (s : Sides) → x ≡ Broken s → ⊥
 
 held_free : (s : Sides) → Free (Held s)
-held_free s t e = let z : ◌≡◌ {A = ℕ} 0 1 = cc in omega arith
+held_free s t e = cc
 
 inapplicable_free : Free NotApplicable
-inapplicable_free t e = let z : ◌≡◌ {A = ℕ} 0 1 = cc in omega arith
+inapplicable_free t e = cc
 
 -- an article that is not broken is passed over
 pub named_free : (n : ℕ) (x : Finding) (rest : Verdict) → Free x → named n x rest ≡ rest
@@ -38,7 +38,7 @@ pub lowest_goes : (f : ℕ → Finding) (n end : ℕ) → n < end → Free (f n)
 lowest_goes f n end h free = lowest_more f n end h ∙ named_free n (f n) (lowest f (n + 1) (end - (n + 1))) free
 
 named_clear : (n : ℕ) (x : Finding) (rest : Verdict) → named n x rest ≡ Certificate → (rest ≡ Certificate) × Free x
-named_clear n (Broken s) rest e = absurd (let z : ◌≡◌ {A = ℕ} 0 1 = cc in omega arith)
+named_clear n (Broken s) rest e = cc
 named_clear n (Held s) rest e = (e, held_free s)
 named_clear n NotApplicable rest e = (e, inapplicable_free)
 
@@ -79,7 +79,7 @@ pub record First (f : ℕ → Finding) (n end a : ℕ) (s : Sides) : Type 0 wher
   pub clear : Clear f n a
 
 pub lowest_first : (f : ℕ → Finding) (n left a : ℕ) (s : Sides) → lowest f n left ≡ Breaks a s → First f n (n + left) a s
-lowest_first f n zero a s e = absurd (let z : ◌≡◌ {A = ℕ} 0 1 = cc in omega arith)
+lowest_first f n zero a s e = cc
 lowest_first f n (suc left) a s e =
     ⊎_elim
     (λ here. record {

@@ -1,5 +1,5 @@
 -- The verdict says what it should. Assumes nothing.
-use Rattle.std.proofs.Common.{◌≡◌, ℕ, ◌+◌, Bool, true, false, cond, Ok, Err, Result, sym, refl, ap, ◌∙◌, subst, arith}
+use Rattle.std.proofs.Common.{◌≡◌, ◌+◌, Bool, true, false, cond, Ok, Err, Result, sym, refl, ap, ◌∙◌, subst, arith}
 use Rattle.faults.specs.declared.fault.JobFault.{JobFault}
 use Rattle.faults.specs.declared.fault.JobFault.TheVariants.{Unlawful, NotTaken}
 use Rattle.books.specs.Meanings.{Meaning}
@@ -11,17 +11,17 @@ use Rattle.books.proofs.Lowest.{Clear, lowest_clear, clear_lowest, lowest_first,
 -- a verdict that was answered came after both tests
 answered : (l t : Bool) (v w : Verdict) → ◌≡◌ {A = Result Verdict JobFault} (cond l (cond t (Ok v) (Err NotTaken)) (Err Unlawful)) (Ok w) → (l ≡ true) × (t ≡ true) × (v ≡ w)
 answered true true v w e = (refl, refl, cc)
-answered true false v w e = absurd (let z : ◌≡◌ {A = ℕ} 0 1 = cc in omega arith)
-answered false t v w e = absurd (let z : ◌≡◌ {A = ℕ} 0 1 = cc in omega arith)
+answered true false v w e = cc
+answered false t v w e = cc
 
 untaken_only : (l t : Bool) (v : Verdict) → ◌≡◌ {A = Result Verdict JobFault} (cond l (cond t (Ok v) (Err NotTaken)) (Err Unlawful)) (Err NotTaken) → (l ≡ true) × (t ≡ false)
-untaken_only true true v e = absurd (let z : ◌≡◌ {A = ℕ} 0 1 = cc in omega arith)
+untaken_only true true v e = cc
 untaken_only true false v e = (refl, refl)
-untaken_only false t v e = absurd (let z : ◌≡◌ {A = ℕ} 0 1 = cc in omega arith)
+untaken_only false t v e = cc
 
 unlawful_only : (l t : Bool) (v : Verdict) → ◌≡◌ {A = Result Verdict JobFault} (cond l (cond t (Ok v) (Err NotTaken)) (Err Unlawful)) (Err Unlawful) → l ≡ false
-unlawful_only true true v e = absurd (let z : ◌≡◌ {A = ℕ} 0 1 = cc in omega arith)
-unlawful_only true false v e = absurd (let z : ◌≡◌ {A = ℕ} 0 1 = cc in omega arith)
+unlawful_only true true v e = cc
+unlawful_only true false v e = cc
 unlawful_only false t v e = refl
 
 asked : (l t : Bool) (v : Verdict) → l ≡ true → t ≡ true → ◌≡◌ {A = Result Verdict JobFault} (cond l (cond t (Ok v) (Err NotTaken)) (Err Unlawful)) (Ok v)

@@ -204,7 +204,7 @@ pub record WorkedCases : Type 0 where
   -- 180,000 N can be lifted
   pub lift_to_seven_tenths : (lifted 180000).answer ≡ Ok (InHand 180000)
   -- wall 1 then carries 420,000 N
-  pub seven_tenths_carried : (wall_found (lifted 180000).state 1).carried ≡ 420000
+  pub seven_tenths_carried : (wall_found (lifted 180000).state 1).member.carried ≡ 420000
   -- the job notes the lift
   pub job_notes_the_lift : (lifted 180000).state.note ≡ noted_lift
   -- and so does the hand

@@ -1,13 +1,13 @@
-// The column book.
+// The column book. Each article is a function of its own, kept also where two are alike in shape alone: what an article
+// compares is all that it says, and is read beside the regulation by its number.
 ghost use Rattle.std.specs.Prelude.{true, ◌≡◌, ◌*◌, ◌≤◌};
-ghost use Rattle.sheets.specs.Sheets.{lawful_column};
-ghost use Rattle.columns.specs.Articles.{column_sizes, ColumnBounds, least_bar_area, most_bar_area, least_tension_area, confined_by_side, confined_by_diameter, most_confined_spacing, normal_by_side, most_normal_spacing, column_meaning};
+ghost use Rattle.columns.specs.Articles.{column_sizes, ColumnBounds, least_bar_area, most_bar_area, least_tension_area, confined_by_side, confined_by_diameter, most_confined_spacing, normal_by_side, most_normal_spacing, section, column_meaning};
 
 use books::answers::Finding;
-use books::book::Book;
+use books::book::{Book, Lawful};
 use members::areas::{GREATEST_ZONE, area_of, product};
 use members::member::Column;
-use sheets::sheet::{Bars, ColumnSheet};
+use sheets::sheet::Bars;
 
 // The articles for columns.
 #[derive(Clone, Copy)]
@@ -19,7 +19,7 @@ const ARTICLES: u32 = 8;
 impl Book<Column> for ColumnBook {
     ghost meaning = { λ _. column_meaning };
 
-    fn takes(&self, member: &Column) -> bool {
+    fn takes(&self, column: &Lawful<'_, Column>) -> bool {
         true
     }
 
@@ -27,8 +27,9 @@ impl Book<Column> for ColumnBook {
         ARTICLES
     }
 
-    fn finding(&self, member: &Column, article: u32) -> Finding {
-        let column = &member.sheet;
+    fn finding(&self, column: &Lawful<'_, Column>, article: u32) -> Finding {
+        // kept as a match: it is the list of the articles by their numbers; a table of functions would be the same list,
+        // with a look-up
         match article {
             1 => least_bar_area(column),
             2 => most_bar_area(column),
@@ -44,63 +45,56 @@ impl Book<Column> for ColumnBook {
 }
 
 // 5.6.2.4.1: the bars are at least a hundredth of the section.
-fn least_bar_area(column: &ColumnSheet) -> Finding
-    requires lawful_member { lawful_column column.now ≡ true }
-    ensures bar_area_at_least_a_share_of_the_section { result ≡ least_bar_area column.now }
+fn least_bar_area(column: &Lawful<'_, Column>) -> Finding
+    ensures bar_area_at_least_a_share_of_the_section { result ≡ least_bar_area column.now.sheet }
 {
     let sizes = sizes(column);
-    Finding::at_least(100 * sizes.bars, section(sizes))
+    Finding::at_least(100 * sizes.bars, section(column))
 }
 
 // 5.6.2.4.1: the bars are at most six hundredths of the section.
-fn most_bar_area(column: &ColumnSheet) -> Finding
-    requires lawful_member { lawful_column column.now ≡ true }
-    ensures bar_area_at_most_a_share_of_the_section { result ≡ most_bar_area column.now }
+fn most_bar_area(column: &Lawful<'_, Column>) -> Finding
+    ensures bar_area_at_most_a_share_of_the_section { result ≡ most_bar_area column.now.sheet }
 {
     let sizes = sizes(column);
-    Finding::at_most(100 * sizes.bars, 6 * section(sizes))
+    Finding::at_most(100 * sizes.bars, 6 * section(column))
 }
 
 // 5.6.2.4.1: the bars of the tension face are at least four thousandths of the section.
-fn least_tension_area(column: &ColumnSheet) -> Finding
-    requires lawful_member { lawful_column column.now ≡ true }
-    ensures tension_area_against_the_section { result ≡ least_tension_area column.now }
+fn least_tension_area(column: &Lawful<'_, Column>) -> Finding
+    ensures tension_area_against_the_section { result ≡ least_tension_area column.now.sheet }
 {
     let sizes = sizes(column);
-    Finding::at_least(1_000 * sizes.tension, 4 * section(sizes))
+    Finding::at_least(1_000 * sizes.tension, 4 * section(column))
 }
 
 // 5.6.2.5.3: the confined spacing is at most half the smaller side.
-fn confined_by_side(column: &ColumnSheet) -> Finding
-    requires lawful_member { lawful_column column.now ≡ true }
-    ensures confined_spacing_against_the_smaller_side { result ≡ confined_by_side column.now }
+fn confined_by_side(column: &Lawful<'_, Column>) -> Finding
+    ensures confined_spacing_against_the_smaller_side { result ≡ confined_by_side column.now.sheet }
 {
     let sizes = sizes(column);
     Finding::at_most(2 * sizes.confined, sizes.width.min(sizes.height))
 }
 
 // 5.6.2.5.3: the confined spacing is at most nine bar diameters.
-fn confined_by_diameter(column: &ColumnSheet) -> Finding
-    requires lawful_member { lawful_column column.now ≡ true }
-    ensures confined_spacing_against_the_diameter { result ≡ confined_by_diameter column.now }
+fn confined_by_diameter(column: &Lawful<'_, Column>) -> Finding
+    ensures confined_spacing_against_the_diameter { result ≡ confined_by_diameter column.now.sheet }
 {
     let sizes = sizes(column);
     Finding::at_most(sizes.confined, 9 * sizes.diameter)
 }
 
 // 5.6.2.5.3: the confined spacing is at most 100 mm.
-fn most_confined_spacing(column: &ColumnSheet) -> Finding
-    requires lawful_member { lawful_column column.now ≡ true }
-    ensures confined_spacing_against_its_most { result ≡ most_confined_spacing column.now }
+fn most_confined_spacing(column: &Lawful<'_, Column>) -> Finding
+    ensures confined_spacing_against_its_most { result ≡ most_confined_spacing column.now.sheet }
 {
     let sizes = sizes(column);
     Finding::at_most(sizes.confined, 100)
 }
 
 // 5.6.2.6: the normal spacing is at most a share of the smaller side, by zone.
-fn normal_by_side(column: &ColumnSheet) -> Finding
-    requires lawful_member { lawful_column column.now ≡ true }
-    ensures normal_spacing_against_the_smaller_side { result ≡ normal_by_side column.now }
+fn normal_by_side(column: &Lawful<'_, Column>) -> Finding
+    ensures normal_spacing_against_the_smaller_side { result ≡ normal_by_side column.now.sheet }
 {
     let sizes = sizes(column);
     Finding::at_most(
@@ -110,9 +104,8 @@ fn normal_by_side(column: &ColumnSheet) -> Finding
 }
 
 // 5.6.2.6: the normal spacing is at most 200 mm.
-fn most_normal_spacing(column: &ColumnSheet) -> Finding
-    requires lawful_member { lawful_column column.now ≡ true }
-    ensures normal_spacing_against_its_most { result ≡ most_normal_spacing column.now }
+fn most_normal_spacing(column: &Lawful<'_, Column>) -> Finding
+    ensures normal_spacing_against_its_most { result ≡ most_normal_spacing column.now.sheet }
 {
     let sizes = sizes(column);
     Finding::at_most(sizes.normal, 200)
@@ -137,32 +130,33 @@ const MOST_SIDE: u64 = 2_000;
 const MOST_SCALED_ZONE: u64 = 6 * GREATEST_ZONE;
 
 // The sizes of a lawful column.
-fn sizes(column: &ColumnSheet) -> ColumnSizes
-    requires lawful_member { lawful_column column.now ≡ true }
-    ensures sizes_of_the_column { result ≡ column_sizes column.now }
+#[tactic(auto, using(crate::proofs::Sizes::column_bounded))]
+fn sizes(column: &Lawful<'_, Column>) -> ColumnSizes
+    ensures sizes_of_the_column { result ≡ column_sizes column.now.sheet }
     ensures within_the_bounds { ColumnBounds result }
 {
+    let sheet = &column.member.sheet;
     let tension = Bars {
-        count: column.tension_count,
-        diameter: column.bars.diameter,
+        count: sheet.tension_count,
+        diameter: sheet.bars.diameter,
     };
     ColumnSizes {
-        zone: u64::from(column.heading.zone),
-        width: u64::from(column.width),
-        height: u64::from(column.height),
-        bars: area_of(column.bars),
+        zone: u64::from(sheet.heading.zone),
+        width: u64::from(sheet.width),
+        height: u64::from(sheet.height),
+        bars: area_of(sheet.bars),
         tension: area_of(tension),
-        diameter: u64::from(column.bars.diameter),
-        confined: u64::from(column.confined_spacing),
-        normal: u64::from(column.normal_spacing),
+        diameter: u64::from(sheet.bars.diameter),
+        confined: u64::from(sheet.confined_spacing),
+        normal: u64::from(sheet.normal_spacing),
     }
 }
 
 // The area of the section.
-fn section(sizes: ColumnSizes) -> u64
-    requires within_the_bounds { ColumnBounds sizes }
-    ensures width_times_height { result ≡ sizes.width * sizes.height }
+fn section(column: &Lawful<'_, Column>) -> u64
+    ensures width_times_height { result ≡ section column.now.sheet }
     ensures within_its_bound { result ≤ 2000 * 2000 }
 {
+    let sizes = sizes(column);
     product::<MOST_SIDE, MOST_SIDE>(sizes.width, sizes.height)
 }

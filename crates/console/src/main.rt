@@ -7,7 +7,8 @@ use report::answer::reply;
 use std::io;
 use std::io::Read;
 
-// One byte more than a message may have: so many bytes tell all there is to know.
+// One byte more than a message may have: so many bytes tell all there is to know. Kept as a buffer: nothing between the bytes
+// and the line takes heap.
 const ENOUGH: usize = 257;
 
 // Fills the buffer from the input until one of them is at its end, and answers how many bytes were read.
@@ -15,18 +16,14 @@ fn fill<R: Read>(input: &mut R, buffer: &mut [u8]) -> io::Result<usize>
     ensures no_more_than_the_buffer_holds { IfOk result (λ size. size ≤ length buffer.new) }
 {
     let most = buffer.len();
-    let mut size = 0;
-    for _ in 0..most {
-        if size >= most {
-            break;
+    let mut rest = buffer;
+    while !rest.is_empty() {
+        match input.read(rest)? {
+            0 => break,
+            more => rest = &mut rest[more..],
         }
-        let more = input.read(&mut buffer[size..most])?;
-        if more == 0 {
-            break;
-        }
-        size += more;
     }
-    Ok(size)
+    Ok(most - rest.len())
 }
 
 // One message in, one line out.
@@ -41,12 +38,12 @@ fn main(rt: HostRuntime) -> io::Result<()> {
 #[cfg(test)]
 mod tests {
     use super::*;
-    use books::answers::Verdict;
+    use books::answers::{Sides, Verdict};
     use books::judgement::verdict;
-    use faults::fault::JobFault;
+    use faults::fault::{Origin, Refusal};
     use members::member::Wall;
     use messages::message::encode;
-    use sheets::sheet::{Sheet, WallSheet};
+    use sheets::sheet::{NumberedSheet, Sheet, WallSheet};
     use std::test::Fail;
     use walls::articles::WallBook;
 
@@ -76,23 +73,31 @@ mod tests {
         Ok(())
     }
 
-    // Whether the answer is a refusal with this number from the input, in this layer, at place 0.
-    fn is_refused(answer: Result<Verdict, JobFault>, number: u32, layer: u32) -> bool {
-        match answer {
-            Err(fault) => {
-                let refusal = fault.refusal();
-                refusal.number == number && refusal.layer == layer && refusal.place == 0
-            }
-            Ok(_) => false,
+    // The ground of refusal S4.
+    const S4: Refusal = Refusal {
+        origin: Origin::State,
+        number: 4,
+        layer: 3,
+        place: 0,
+    };
+
+    // A ground of refusal from the input, at place 0.
+    fn ground(number: u32, layer: u32) -> Refusal {
+        Refusal {
+            origin: Origin::Input,
+            number,
+            layer,
+            place: 0,
         }
     }
 
     #[test]
     fn empty_and_overlong_input_is_refused(rt: HostRuntime) {
         let zeros = [0u8; ENOUGH];
-        assert!(rt; is_refused(reply(&zeros[0..0]).answer, 1, 1));
-        assert!(rt; is_refused(reply(&zeros).answer, 1, 1));
-        assert!(rt; is_refused(reply(&zeros[0..256]).answer, 3, 1));
+        for (size, number) in [(0, 1), (257, 1), (256, 3)] {
+            let answer = reply(&zeros[0..size]).answer;
+            assert_eq!(rt; answer.map_err(Refusal::from), Err(ground(number, 1)));
+        }
     }
 
     // The worked wall: storey 1 of 5, static, 200 thick, 3,000 long, shear 600,000.
@@ -104,7 +109,7 @@ mod tests {
     }
 
     #[test]
-    fn carried_shear_decides_article_12(rt: HostRuntime) -> Result<(), Fail> {
+    fn carried_shear_decides_article_12(rt: HostRuntime) {
         let sheet = worked_wall();
         for carried in [420_000, 682_631] {
             assert!(rt;
@@ -114,34 +119,20 @@ mod tests {
                 )
             );
         }
-        assert!(rt;
-            is_refused(
-                verdict(
-                    &WallBook,
-                    &Wall {
-                        sheet,
-                        carried: 419_999,
-                    },
-                ),
-                4,
-                3,
-            )
-        );
-        match verdict(
-            &WallBook,
-            &Wall {
-                sheet,
-                carried: 682_632,
-            },
-        ) {
-            Ok(Verdict::Breaks(article, sides)) => {
-                assert!(rt;
-                    article == 12 && sides.left == 12_867_600_000 && sides.right == 12_867_613_200
-                );
-                Ok(())
-            }
-            _ => Err(Fail::new("article 12 is not named")),
-        }
+        let under = Wall {
+            sheet,
+            carried: 419_999,
+        };
+        assert_eq!(rt; verdict(&WallBook, &under).map_err(Refusal::from), Err(S4));
+        let over = Wall {
+            sheet,
+            carried: 682_632,
+        };
+        let sides = Sides {
+            left: 12_867_600_000,
+            right: 12_867_613_200,
+        };
+        assert_eq!(rt; verdict(&WallBook, &over), Ok(Verdict::Breaks(12, sides)));
     }
 
     #[test]

@@ -55,3 +55,7 @@ letter State = codes "S"
 -- a refusal as it is written: its number, its layer and its place
 abbrev pub refusal_text : Refusal → List ℕ
 refusal_text r = letter r.origin ++ (decimal r.number ++ (codes " " ++ (decimal r.layer ++ (codes " " ++ decimal r.place))))
+
+-- a job fault as it is written: `refused` and what it answers
+abbrev pub fault_text : JobFault → List ℕ
+fault_text fault = codes "refused " ++ refusal_text (job_refusal fault)

@@ -1,22 +1,24 @@
 // The grounds of refusal, layer inside layer: a message fault inside a sheet fault inside a job fault.
 // `Rattle.faults.specs.Faults` gives case by case the number, the layer and the place that a refusal answers.
 ghost use Rattle.std.specs.Prelude.{◌≡◌, Some};
-ghost use Rattle.faults.specs.Faults.{from_input, from_state, message_refusal, sheet_refusal, job_refusal, refusal_text};
+ghost use Rattle.faults.specs.Faults.{from_input, from_state, message_refusal, sheet_refusal, job_refusal, refusal_text, fault_text};
 ghost use Rattle.faults.specs.declared.fault.SheetFault.TheVariants.{Message};
-ghost use Rattle.faults.specs.declared.fault.JobFault.TheVariants.{Sheet};
+ghost use Rattle.faults.specs.declared.fault.JobFault.TheVariants.{Sheet, Argument};
 
 use std::fmt;
+use tables::codes::Unlisted;
 
 // Whether a refusal comes from the input or from the state, with the letter before its number.
-#[derive(Clone, Copy)]
+#[derive(Clone, Copy, Debug, PartialEq, Eq)]
 pub enum Origin {
     Input,
     State,
 }
 
 // What a refusal answers: its number, as I3 or S7, the layer that refused (1 message, 2 sheet, 3 job) and the place,
-// a byte offset in the message, or 0 where it has none.
-#[derive(Clone, Copy)]
+// a byte offset in the message, or 0 where it has none. Kept as numbers: the format fixes these numbers, which are what is
+// answered and printed; the grounds and their layers are the enums below.
+#[derive(Clone, Copy, Debug, PartialEq, Eq)]
 pub struct Refusal {
     pub origin: Origin,
     pub number: u32,
@@ -25,7 +27,7 @@ pub struct Refusal {
 }
 
 // Layer 1: the bytes are not a run of the fields that are due.
-#[derive(Clone, Copy)]
+#[derive(Clone, Copy, Debug, PartialEq, Eq)]
 pub enum MessageFault {
     // I1: the message is empty or over 256 bytes
     Size,
@@ -38,7 +40,7 @@ pub enum MessageFault {
 }
 
 // Layer 2: a message fault, or a number that the sheet does not admit.
-#[derive(Clone, Copy)]
+#[derive(Clone, Copy, Debug, PartialEq, Eq)]
 pub enum SheetFault {
     Message(MessageFault),
     // I5: the value of the field at this offset is outside its limits
@@ -46,7 +48,7 @@ pub enum SheetFault {
 }
 
 // Layer 3: a sheet fault, or a call that the job refuses.
-#[derive(Clone, Copy)]
+#[derive(Clone, Copy, Debug, PartialEq, Eq)]
 pub enum JobFault {
     Sheet(SheetFault),
     // I6: an argument is outside its limits, or the buffer is too short
@@ -77,11 +79,14 @@ pub enum JobFault {
     NotTaken,
 }
 
-impl MessageFault {
-    fn refusal(self) -> Refusal
-        ensures number_layer_and_place { result ≡ message_refusal self }
+// What a message fault answers.
+impl From<MessageFault> for Refusal {
+    ghost from_gives = { λ fault r. r ≡ message_refusal fault };
+
+    fn from(fault: MessageFault) -> Refusal
+        ensures number_layer_and_place { result ≡ message_refusal fault }
     {
-        match self {
+        match fault {
             MessageFault::Size => input(1, 1, 0),
             MessageFault::CutShort(place) => input(2, 1, place),
             MessageFault::NotDue(place) => input(3, 1, place),
@@ -90,24 +95,29 @@ impl MessageFault {
     }
 }
 
-impl SheetFault {
-    fn refusal(self) -> Refusal
-        ensures number_layer_and_place { result ≡ sheet_refusal self }
+// What a sheet fault answers; a message fault inside keeps its number, layer and place.
+impl From<SheetFault> for Refusal {
+    ghost from_gives = { λ fault r. r ≡ sheet_refusal fault };
+
+    fn from(fault: SheetFault) -> Refusal
+        ensures number_layer_and_place { result ≡ sheet_refusal fault }
     {
-        match self {
-            SheetFault::Message(fault) => fault.refusal(),
+        match fault {
+            SheetFault::Message(message) => Refusal::from(message),
             SheetFault::Value(place) => input(5, 2, place),
         }
     }
 }
 
-impl JobFault {
-    // What the refusal answers; a fault from below keeps its number, layer and place.
-    pub fn refusal(self) -> Refusal
-        ensures number_layer_and_place { result ≡ job_refusal self }
+// What a job fault answers; a sheet fault inside keeps its number, layer and place.
+impl From<JobFault> for Refusal {
+    ghost from_gives = { λ fault r. r ≡ job_refusal fault };
+
+    fn from(fault: JobFault) -> Refusal
+        ensures number_layer_and_place { result ≡ job_refusal fault }
     {
-        match self {
-            JobFault::Sheet(fault) => fault.refusal(),
+        match fault {
+            JobFault::Sheet(sheet) => Refusal::from(sheet),
             JobFault::Argument => input(6, 3, 0),
             JobFault::Full => state(1),
             JobFault::Filed => state(2),
@@ -137,6 +147,15 @@ impl fmt::Display for Refusal {
             Origin::Input => write!(f, "I{number} {layer} {place}"),
             Origin::State => write!(f, "S{number} {layer} {place}"),
         }
+    }
+}
+
+// A job fault is written as `refused` and what it answers, as `refused I3 1 116`.
+impl fmt::Display for JobFault {
+    ghost output = { λ fault. Some (fault_text fault) };
+
+    fn fmt<W: fmt::Write>(&self, f: &mut fmt::Formatter<W>) -> fmt::Result {
+        write!(f, "refused {}", Refusal::from(*self))
     }
 }
 
@@ -179,5 +198,14 @@ impl From<SheetFault> for JobFault {
 
     fn from(below: SheetFault) -> JobFault {
         JobFault::Sheet(below)
+    }
+}
+
+// `?` answers a number that stands for none of its closed list as an argument outside its limits.
+impl From<Unlisted> for JobFault {
+    ghost from_gives = { λ _ r. r ≡ Argument };
+
+    fn from(_number: Unlisted) -> Self {
+        Self::Argument
     }
 }

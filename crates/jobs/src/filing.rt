@@ -1,22 +1,24 @@
-// The calls on the register of one kind.
-ghost use Rattle.std.specs.Prelude.{◌≡◌, ◌&&◌};
+// The calls on the register of one kind. A kind is a number down to where it is vetted, since each public call is thin over a
+// function here, so that a wrong edit is refused in the code. The rows of each kind are of a type of their own, so a match picks
+// the register, and a table of closures would be no plainer; a member is made by a literal, which says what a wall carries.
+ghost use Rattle.std.specs.Prelude.{◌≡◌, ◌&&◌, true, false, Some, IfOk};
+ghost use Rattle.tables.specs.Codes.{kind_of};
 ghost use Rattle.registers.specs.declared.note.Note.{Note};
 ghost use Rattle.law.specs.States.{is_mark};
 ghost use Rattle.law.specs.Steps.{enter_step, file, judge_in, judge_step, withdraw_from, withdraw_step, write_answer, write_buffer, write_from, buffer_from};
 ghost use Rattle.jobs.specs.declared.job.Job.{Job};
-ghost use Rattle.jobs.specs.Views.{piles_of, state_of};
+ghost use Rattle.jobs.specs.Views.{StayLent, kind_named, sized, state_of};
 
 use crate::job::Job;
-use crate::lent::{Piles, Registers};
-use crate::limits::{are_sizes, is_mark};
+use crate::lent::{Books, Registers};
+use crate::limits::MARK;
 use books::answers::Verdict;
-use books::book::Book;
 use faults::fault::JobFault;
 use members::member::{Beam, Column, Wall};
 use messages::message::decode;
 use registers::filing::{judge_row, withdraw_row, write_row};
 use registers::register::append;
-use registers::rows::{BeamRow, ColumnRow, WallRow};
+use registers::rows::Filed;
 use sheets::sheet::Sheet;
 use tables::codes::Kind;
 
@@ -25,16 +27,9 @@ use tables::codes::Kind;
 pub(crate) fn enter_sheet(registers: &mut Registers<'_>, message: &[u8]) -> Result<(), JobFault>
     ensures answers_by_its_grounds { (job : Job) (hand : Note) → result ≡ (enter_step (state_of job registers.old) hand message.now).answer }
     ensures state_by_its_definition { (job : Job) (hand : Note) → state_of job registers.new ≡ (enter_step (state_of job registers.old) hand message.now).state }
-    ensures beams_stay_lent { registers.new.beams.ghost_name ≡ registers.old.beams.ghost_name }
-    ensures columns_stay_lent { registers.new.columns.ghost_name ≡ registers.old.columns.ghost_name }
-    ensures walls_stay_lent { registers.new.walls.ghost_name ≡ registers.old.walls.ghost_name }
+    ensures registers_stay_lent { StayLent registers.old registers.new }
 {
-    let sized = are_sizes(
-        registers.beams.len(),
-        registers.columns.len(),
-        registers.walls.len(),
-    );
-    if !sized {
+    if !registers.are_sized() {
         return Err(JobFault::Argument);
     }
     let sheet = decode(message)?;
@@ -45,33 +40,28 @@ pub(crate) fn enter_sheet(registers: &mut Registers<'_>, message: &[u8]) -> Resu
 fn file(registers: &mut Registers<'_>, sheet: Sheet) -> Result<(), JobFault>
     ensures answers_by_its_register { (job : Job) (hand : Note) → result ≡ (file (state_of job registers.old) hand sheet).answer }
     ensures state_by_its_register { (job : Job) (hand : Note) → state_of job registers.new ≡ (file (state_of job registers.old) hand sheet).state }
-    ensures beams_stay_lent { registers.new.beams.ghost_name ≡ registers.old.beams.ghost_name }
-    ensures columns_stay_lent { registers.new.columns.ghost_name ≡ registers.old.columns.ghost_name }
-    ensures walls_stay_lent { registers.new.walls.ghost_name ≡ registers.old.walls.ghost_name }
+    ensures registers_stay_lent { StayLent registers.old registers.new }
 {
     match sheet {
-        Sheet::Beam(sheet) => {
-            let row = BeamRow {
+        Sheet::Beam(sheet) => append(registers.beams, uncertified(Beam { sheet })),
+        Sheet::Column(sheet) => append(registers.columns, uncertified(Column { sheet })),
+        Sheet::Wall(sheet) => append(
+            registers.walls,
+            uncertified(Wall {
                 sheet,
-                certified: false,
-            };
-            append(registers.beams, row)
-        }
-        Sheet::Column(sheet) => {
-            let row = ColumnRow {
-                sheet,
-                certified: false,
-            };
-            append(registers.columns, row)
-        }
-        Sheet::Wall(sheet) => {
-            let row = WallRow {
-                sheet,
-                certified: false,
                 carried: sheet.shear,
-            };
-            append(registers.walls, row)
-        }
+            }),
+        ),
+    }
+}
+
+// The row of a member, as it is filed.
+fn uncertified<M>(member: M) -> Filed<M>
+    ensures row_without_a_certificate { result ≡ record { member = member; certified = false } }
+{
+    Filed {
+        member,
+        certified: false,
     }
 }
 
@@ -84,21 +74,9 @@ pub(crate) fn withdraw_sheet(
 ) -> Result<(), JobFault>
     ensures answers_by_its_grounds { (hand : Note) → result ≡ (withdraw_step (state_of job.now registers.old) hand kind mark).answer }
     ensures state_by_its_definition { (hand : Note) → state_of job.now registers.new ≡ (withdraw_step (state_of job.now registers.old) hand kind mark).state }
-    ensures beams_stay_lent { registers.new.beams.ghost_name ≡ registers.old.beams.ghost_name }
-    ensures columns_stay_lent { registers.new.columns.ghost_name ≡ registers.old.columns.ghost_name }
-    ensures walls_stay_lent { registers.new.walls.ghost_name ≡ registers.old.walls.ghost_name }
+    ensures registers_stay_lent { StayLent registers.old registers.new }
 {
-    let sized = are_sizes(
-        registers.beams.len(),
-        registers.columns.len(),
-        registers.walls.len(),
-    );
-    if !may_name(sized, mark) {
-        return Err(JobFault::Argument);
-    }
-    let Some(kind) = Kind::of_number(kind) else {
-        return Err(JobFault::Argument);
-    };
+    let kind = kind_named(registers, kind, mark)?;
     withdraw_from(job, registers, kind, mark)
 }
 
@@ -111,9 +89,7 @@ fn withdraw_from(
 ) -> Result<(), JobFault>
     ensures answers_by_its_register { (hand : Note) → result ≡ (withdraw_from (state_of job.now registers.old) hand mark kind).answer }
     ensures state_by_its_register { (hand : Note) → state_of job.now registers.new ≡ (withdraw_from (state_of job.now registers.old) hand mark kind).state }
-    ensures beams_stay_lent { registers.new.beams.ghost_name ≡ registers.old.beams.ghost_name }
-    ensures columns_stay_lent { registers.new.columns.ghost_name ≡ registers.old.columns.ghost_name }
-    ensures walls_stay_lent { registers.new.walls.ghost_name ≡ registers.old.walls.ghost_name }
+    ensures registers_stay_lent { StayLent registers.old registers.new }
 {
     match kind {
         Kind::Beam => withdraw_row(registers.beams, mark, &job.note),
@@ -124,49 +100,35 @@ fn withdraw_from(
 
 // Asks the pile of its kind about a row: refused where an argument or a register is outside its limits (I6), then S3,
 // S4 and S12.
-pub(crate) fn judge_sheet<B: Book<Beam>, C: Book<Column>, W: Book<Wall>>(
+pub(crate) fn judge_sheet<P: Books>(
     registers: &mut Registers<'_>,
-    piles: &Piles<'_, B, C, W>,
+    piles: &P,
     kind: u32,
     mark: u32,
 ) -> Result<Verdict, JobFault>
-    ensures answers_by_its_grounds { (job : Job) (hand : Note) → result ≡ (judge_step (piles_of B.Book.meaning C.Book.meaning W.Book.meaning piles.now) (state_of job registers.old) hand kind mark).answer }
-    ensures state_by_its_definition { (job : Job) (hand : Note) → state_of job registers.new ≡ (judge_step (piles_of B.Book.meaning C.Book.meaning W.Book.meaning piles.now) (state_of job registers.old) hand kind mark).state }
-    ensures beams_stay_lent { registers.new.beams.ghost_name ≡ registers.old.beams.ghost_name }
-    ensures columns_stay_lent { registers.new.columns.ghost_name ≡ registers.old.columns.ghost_name }
-    ensures walls_stay_lent { registers.new.walls.ghost_name ≡ registers.old.walls.ghost_name }
+    ensures answers_by_its_grounds { (job : Job) (hand : Note) → result ≡ (judge_step (P.meanings piles.now) (state_of job registers.old) hand kind mark).answer }
+    ensures state_by_its_definition { (job : Job) (hand : Note) → state_of job registers.new ≡ (judge_step (P.meanings piles.now) (state_of job registers.old) hand kind mark).state }
+    ensures registers_stay_lent { StayLent registers.old registers.new }
 {
-    let sized = are_sizes(
-        registers.beams.len(),
-        registers.columns.len(),
-        registers.walls.len(),
-    );
-    if !may_name(sized, mark) {
-        return Err(JobFault::Argument);
-    }
-    let Some(kind) = Kind::of_number(kind) else {
-        return Err(JobFault::Argument);
-    };
+    let kind = kind_named(registers, kind, mark)?;
     judge_in(registers, piles, kind, mark)
 }
 
 // Asks the pile of this kind about a row in the register of this kind.
-fn judge_in<B: Book<Beam>, C: Book<Column>, W: Book<Wall>>(
+fn judge_in<P: Books>(
     registers: &mut Registers<'_>,
-    piles: &Piles<'_, B, C, W>,
+    piles: &P,
     kind: Kind,
     mark: u32,
 ) -> Result<Verdict, JobFault>
-    ensures answers_by_its_register { (job : Job) (hand : Note) → result ≡ (judge_in (piles_of B.Book.meaning C.Book.meaning W.Book.meaning piles.now) (state_of job registers.old) hand mark kind).answer }
-    ensures state_by_its_register { (job : Job) (hand : Note) → state_of job registers.new ≡ (judge_in (piles_of B.Book.meaning C.Book.meaning W.Book.meaning piles.now) (state_of job registers.old) hand mark kind).state }
-    ensures beams_stay_lent { registers.new.beams.ghost_name ≡ registers.old.beams.ghost_name }
-    ensures columns_stay_lent { registers.new.columns.ghost_name ≡ registers.old.columns.ghost_name }
-    ensures walls_stay_lent { registers.new.walls.ghost_name ≡ registers.old.walls.ghost_name }
+    ensures answers_by_its_register { (job : Job) (hand : Note) → result ≡ (judge_in (P.meanings piles.now) (state_of job registers.old) hand mark kind).answer }
+    ensures state_by_its_register { (job : Job) (hand : Note) → state_of job registers.new ≡ (judge_in (P.meanings piles.now) (state_of job registers.old) hand mark kind).state }
+    ensures registers_stay_lent { StayLent registers.old registers.new }
 {
     match kind {
-        Kind::Beam => judge_row(registers.beams, piles.beams, mark),
-        Kind::Column => judge_row(registers.columns, piles.columns, mark),
-        Kind::Wall => judge_row(registers.walls, piles.walls, mark),
+        Kind::Beam => judge_row(registers.beams, piles.beams(), mark),
+        Kind::Column => judge_row(registers.columns, piles.columns(), mark),
+        Kind::Wall => judge_row(registers.walls, piles.walls(), mark),
     }
 }
 
@@ -181,17 +143,7 @@ pub(crate) fn write_sheet(
     ensures answers_by_its_grounds { (job : Job) → result ≡ write_answer (state_of job registers.now) kind mark buffer.old }
     ensures message_then_the_rest_untouched { (job : Job) → buffer.new ≡ write_buffer (state_of job registers.now) kind mark buffer.old }
 {
-    let sized = are_sizes(
-        registers.beams.len(),
-        registers.columns.len(),
-        registers.walls.len(),
-    );
-    if !may_name(sized, mark) {
-        return Err(JobFault::Argument);
-    }
-    let Some(kind) = Kind::of_number(kind) else {
-        return Err(JobFault::Argument);
-    };
+    let kind = kind_named(registers, kind, mark)?;
     write_from(registers, kind, mark, buffer)
 }
 
@@ -212,9 +164,13 @@ fn write_from(
     }
 }
 
-// Whether a call may name a row by this mark.
-fn may_name(sized: bool, mark: u32) -> bool
-    ensures each_within_its_limits { result ≡ (sized && is_mark mark) }
+// The kind of a row that a call names, where its numbers and the registers are within their limits (I6).
+fn kind_named(registers: &Registers<'_>, kind: u32, mark: u32) -> Result<Kind, JobFault>
+    ensures kind_or_refused { result ≡ kind_named (sized registers.now) kind mark }
+    ensures within_their_limits { IfOk result (λ named. ((sized registers.now && is_mark mark) ≡ true) × (kind_of kind ≡ Some named)) }
 {
-    sized && is_mark(mark)
+    if !(registers.are_sized() && MARK.admits(mark)) {
+        return Err(JobFault::Argument);
+    }
+    Ok(Kind::try_from(kind)?)
 }

@@ -4,6 +4,14 @@ ghost use Rattle.law.specs.States.{empty};
 
 use registers::note::Note;
 
+// The note of no shear.
+pub(crate) const NO_SHEAR: Note = Note {
+    job: 0,
+    wall: 0,
+    storey: 0,
+    newtons: 0,
+};
+
 // What is in hand. A hand is never copied, and may only end with no shear in it.
 pub struct Hand {
     pub(crate) note: Note,
@@ -14,7 +22,7 @@ impl Hand {
     pub fn empty() -> Hand
         ensures nothing_in_hand { result.note ≡ empty }
     {
-        Hand { note: empty_note() }
+        Hand { note: NO_SHEAR }
     }
 
     // The shear in hand, in N.
@@ -31,17 +39,5 @@ impl Drop for Hand {
         requires no_shear_in_it { self.note.newtons ≡ 0 }
     {
         let Hand { note: _ } = self;
-    }
-}
-
-// The note of no shear.
-pub(crate) fn empty_note() -> Note
-    ensures no_shear { result ≡ empty }
-{
-    Note {
-        job: 0,
-        wall: 0,
-        storey: 0,
-        newtons: 0,
     }
 }

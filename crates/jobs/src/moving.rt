@@ -1,16 +1,19 @@
-// The calls that move shear: first the change that a call would make, or the ground that refuses it, then the change.
-ghost use Rattle.std.specs.Prelude.{◌≡◌, ◌+◌, ◌*◌, ◌<◌, ◌≤◌, ◌&&◌, length, IfOk, ◌==◌, nat_lt};
-ghost use Rattle.law.specs.States.{is_mark, is_newtons, less, same_note};
+// The calls that move shear: first the change that a call would make, or the ground that refuses it, then the change. The three
+// calls are kept beside one another: each is two lines, and a closure for the change that differs would be longer. That a
+// change is at the place of a wall is kept in three clauses, since it is said of the registers and not of the change alone.
+ghost use Rattle.std.specs.Prelude.{◌≡◌, ◌+◌, ◌*◌, ◌<◌, ◌≤◌, length, IfOk, nat_lt, slice_set};
+ghost use Rattle.law.specs.States.{less, with_note, with_walls};
 ghost use Rattle.law.specs.Steps.{carrying, lift_step, place_step, put_back_step};
-ghost use Rattle.jobs.specs.Changes.{answer_by, differs_from, lift_change, lift_off, place_change, place_onto, place_to_move, note_by, put_back_change, walls_by};
-ghost use Rattle.jobs.specs.Views.{state_of};
+ghost use Rattle.jobs.specs.Changes.{differs_from, lawful_wall_at, lift_change, place_change, put_back_change, wall_to_move};
+ghost use Rattle.jobs.specs.Views.{StayLent, sized, state_of};
 
-use crate::hand::{Hand, empty_note};
+use crate::hand::{Hand, NO_SHEAR};
 use crate::job::Job;
 use crate::lent::Registers;
-use crate::limits::{are_sizes, is_mark, is_newtons};
+use crate::limits::{MARK, NEWTONS};
 use books::book::Member;
 use faults::fault::JobFault;
+use members::member::Wall;
 use registers::note::Note;
 use registers::register::find;
 use registers::row::Row;
@@ -27,7 +30,24 @@ struct Change {
     note: Note,
 }
 
+impl Change {
+    // Makes the change, and answers the newtons left in hand.
+    fn carry_out(self, job: &mut Job, registers: &mut Registers<'_>, hand: &mut Hand) -> u32
+        requires place_of_a_wall { self.at < length registers.old.walls.now }
+        ensures newtons_left_in_hand { result ≡ self.note.newtons }
+        ensures row_and_note { state_of job.new registers.new ≡ with_note (with_walls (state_of job.old registers.old) (slice_set registers.old.walls.now self.at self.row)) self.note }
+        ensures hand_notes_it { hand.new.note ≡ self.note }
+        ensures registers_stay_lent { StayLent registers.old registers.new }
+    {
+        registers.walls[self.at] = self.row;
+        job.note = self.note;
+        hand.note = self.note;
+        self.note.newtons
+    }
+}
+
 // Takes shear off a wall into an empty hand.
+#[tactic(auto, using(crate::proofs::Moved::lifted))]
 pub(crate) fn lift_shear(
     job: &mut Job,
     registers: &mut Registers<'_>,
@@ -38,38 +58,14 @@ pub(crate) fn lift_shear(
     ensures answers_by_its_grounds { result ≡ (lift_step (state_of job.old registers.old) hand.old.note wall newtons).answer }
     ensures state_by_its_definition { state_of job.new registers.new ≡ (lift_step (state_of job.old registers.old) hand.old.note wall newtons).state }
     ensures hand_by_its_definition { hand.new.note ≡ (lift_step (state_of job.old registers.old) hand.old.note wall newtons).hand }
-    ensures beams_stay_lent { registers.new.beams.ghost_name ≡ registers.old.beams.ghost_name }
-    ensures columns_stay_lent { registers.new.columns.ghost_name ≡ registers.old.columns.ghost_name }
-    ensures walls_stay_lent { registers.new.walls.ghost_name ≡ registers.old.walls.ghost_name }
+    ensures registers_stay_lent { StayLent registers.old registers.new }
 {
-    let sized = are_sizes(
-        registers.beams.len(),
-        registers.columns.len(),
-        registers.walls.len(),
-    );
-    lift_wall(sized, job, registers.walls, hand, wall, newtons)
-}
-
-// Takes shear off a wall of these, where the registers are within their limits.
-fn lift_wall(
-    sized: bool,
-    job: &mut Job,
-    walls: &mut [WallRow],
-    hand: &mut Hand,
-    wall: u32,
-    newtons: u32,
-) -> Result<u32, JobFault>
-    ensures answers_by_the_change { result ≡ answer_by (lift_change sized job.old.number job.old.note hand.old.note walls.old wall newtons) }
-    ensures walls_by_the_change { walls.new ≡ walls_by (lift_change sized job.old.number job.old.note hand.old.note walls.old wall newtons) walls.old }
-    ensures note_by_the_change { job.new.note ≡ note_by (lift_change sized job.old.number job.old.note hand.old.note walls.old wall newtons) job.old.note }
-    ensures hand_by_the_change { hand.new.note ≡ note_by (lift_change sized job.old.number job.old.note hand.old.note walls.old wall newtons) hand.old.note }
-    ensures number_stays { job.new.number ≡ job.old.number }
-{
-    let change = lift_change(sized, job, hand.note, walls, wall, newtons);
-    carry_out(job, walls, hand, change)
+    let change = lift_change(job, registers, hand.note, wall, newtons)?;
+    Ok(change.carry_out(job, registers, hand))
 }
 
 // Puts shear from the hand onto a wall of its storey.
+#[tactic(auto, using(crate::proofs::Moved::placed))]
 pub(crate) fn place_shear(
     job: &mut Job,
     registers: &mut Registers<'_>,
@@ -80,38 +76,14 @@ pub(crate) fn place_shear(
     ensures answers_by_its_grounds { result ≡ (place_step (state_of job.old registers.old) hand.old.note wall newtons).answer }
     ensures state_by_its_definition { state_of job.new registers.new ≡ (place_step (state_of job.old registers.old) hand.old.note wall newtons).state }
     ensures hand_by_its_definition { hand.new.note ≡ (place_step (state_of job.old registers.old) hand.old.note wall newtons).hand }
-    ensures beams_stay_lent { registers.new.beams.ghost_name ≡ registers.old.beams.ghost_name }
-    ensures columns_stay_lent { registers.new.columns.ghost_name ≡ registers.old.columns.ghost_name }
-    ensures walls_stay_lent { registers.new.walls.ghost_name ≡ registers.old.walls.ghost_name }
+    ensures registers_stay_lent { StayLent registers.old registers.new }
 {
-    let sized = are_sizes(
-        registers.beams.len(),
-        registers.columns.len(),
-        registers.walls.len(),
-    );
-    place_wall(sized, job, registers.walls, hand, wall, newtons)
-}
-
-// Puts shear onto a wall of these, where the registers are within their limits.
-fn place_wall(
-    sized: bool,
-    job: &mut Job,
-    walls: &mut [WallRow],
-    hand: &mut Hand,
-    wall: u32,
-    newtons: u32,
-) -> Result<u32, JobFault>
-    ensures answers_by_the_change { result ≡ answer_by (place_change sized job.old.note hand.old.note walls.old wall newtons) }
-    ensures walls_by_the_change { walls.new ≡ walls_by (place_change sized job.old.note hand.old.note walls.old wall newtons) walls.old }
-    ensures note_by_the_change { job.new.note ≡ note_by (place_change sized job.old.note hand.old.note walls.old wall newtons) job.old.note }
-    ensures hand_by_the_change { hand.new.note ≡ note_by (place_change sized job.old.note hand.old.note walls.old wall newtons) hand.old.note }
-    ensures number_stays { job.new.number ≡ job.old.number }
-{
-    let change = place_change(sized, job, hand.note, walls, wall, newtons);
-    carry_out(job, walls, hand, change)
+    let change = place_change(job, registers, hand.note, wall, newtons)?;
+    Ok(change.carry_out(job, registers, hand))
 }
 
 // Puts the rest from the hand onto the wall that it came from.
+#[tactic(auto, using(crate::proofs::Moved::put_back))]
 pub(crate) fn put_back_shear(
     job: &mut Job,
     registers: &mut Registers<'_>,
@@ -120,85 +92,25 @@ pub(crate) fn put_back_shear(
     ensures answers_by_its_grounds { result ≡ (put_back_step (state_of job.old registers.old) hand.old.note).answer }
     ensures state_by_its_definition { state_of job.new registers.new ≡ (put_back_step (state_of job.old registers.old) hand.old.note).state }
     ensures hand_by_its_definition { hand.new.note ≡ (put_back_step (state_of job.old registers.old) hand.old.note).hand }
-    ensures beams_stay_lent { registers.new.beams.ghost_name ≡ registers.old.beams.ghost_name }
-    ensures columns_stay_lent { registers.new.columns.ghost_name ≡ registers.old.columns.ghost_name }
-    ensures walls_stay_lent { registers.new.walls.ghost_name ≡ registers.old.walls.ghost_name }
+    ensures registers_stay_lent { StayLent registers.old registers.new }
 {
-    let sized = are_sizes(
-        registers.beams.len(),
-        registers.columns.len(),
-        registers.walls.len(),
-    );
-    put_back_wall(sized, job, registers.walls, hand)
-}
-
-// Puts the rest onto its wall of these, where the registers are within their limits.
-fn put_back_wall(
-    sized: bool,
-    job: &mut Job,
-    walls: &mut [WallRow],
-    hand: &mut Hand,
-) -> Result<u32, JobFault>
-    ensures answers_by_the_change { result ≡ answer_by (put_back_change sized job.old.note hand.old.note walls.old) }
-    ensures walls_by_the_change { walls.new ≡ walls_by (put_back_change sized job.old.note hand.old.note walls.old) walls.old }
-    ensures note_by_the_change { job.new.note ≡ note_by (put_back_change sized job.old.note hand.old.note walls.old) job.old.note }
-    ensures hand_by_the_change { hand.new.note ≡ note_by (put_back_change sized job.old.note hand.old.note walls.old) hand.old.note }
-    ensures number_stays { job.new.number ≡ job.old.number }
-{
-    let change = put_back_change(sized, job, hand.note, walls);
-    carry_out(job, walls, hand, change)
-}
-
-// Makes a change that no ground refuses, and answers the newtons left in hand.
-fn carry_out(
-    job: &mut Job,
-    walls: &mut [WallRow],
-    hand: &mut Hand,
-    change: Result<Change, JobFault>,
-) -> Result<u32, JobFault>
-    requires place_of_a_wall { IfOk change (λ c. c.at < length walls.old) }
-    ensures answers_by_the_change { result ≡ answer_by change }
-    ensures walls_by_the_change { walls.new ≡ walls_by change walls.old }
-    ensures note_by_the_change { job.new.note ≡ note_by change job.old.note }
-    ensures hand_by_the_change { hand.new.note ≡ note_by change hand.old.note }
-    ensures number_stays { job.new.number ≡ job.old.number }
-{
-    let change = change?;
-    walls[change.at] = change.row;
-    job.note = change.note;
-    hand.note = change.note;
-    Ok(change.note.newtons)
+    let change = put_back_change(job, registers, hand.note)?;
+    Ok(change.carry_out(job, registers, hand))
 }
 
 // The change that takes shear off a wall into an empty hand.
 fn lift_change(
-    sized: bool,
     job: &Job,
+    registers: &Registers<'_>,
     hand: Note,
-    walls: &[WallRow],
     wall: u32,
     newtons: u32,
 ) -> Result<Change, JobFault>
-    ensures change_or_first_ground { result ≡ lift_change sized job.now.number job.now.note hand walls.now wall newtons }
-    ensures place_of_a_wall { IfOk result (λ change. change.at < length walls.now) }
+    ensures change_or_first_ground { result ≡ lift_change (state_of job.now registers.now) hand wall newtons }
+    ensures place_of_a_wall { IfOk result (λ change. change.at < length registers.now.walls.now) }
 {
-    let at = place_to_move(sized, walls, wall, newtons)?;
-    lift_off(job, hand, at, walls[at], wall, newtons)
-}
-
-// The change that takes shear off the wall at this place.
-fn lift_off(
-    job: &Job,
-    hand: Note,
-    at: usize,
-    row: WallRow,
-    wall: u32,
-    newtons: u32,
-) -> Result<Change, JobFault>
-    ensures change_or_first_ground { result ≡ lift_off job.now.number job.now.note hand wall newtons at row }
-    ensures at_this_place { IfOk result (λ change. change.at ≡ at) }
-{
-    if !are_empty(hand, job.note) {
+    let (at, row) = wall_to_move(registers, wall, newtons)?;
+    if hand.newtons != 0 || job.note.newtons != 0 {
         return Err(JobFault::InHand);
     }
     if keeps_too_little(row, newtons) {
@@ -207,44 +119,29 @@ fn lift_off(
     let note = Note {
         job: job.number,
         wall,
-        storey: row.sheet.storey,
+        storey: row.member.sheet.storey,
         newtons,
     };
-    let row = carrying(row, row.carried - newtons);
+    let row = carrying(row, row.member.carried - newtons);
     Ok(Change { at, row, note })
 }
 
 // The change that puts shear from the hand onto a wall of its storey.
 fn place_change(
-    sized: bool,
     job: &Job,
+    registers: &Registers<'_>,
     hand: Note,
-    walls: &[WallRow],
     wall: u32,
     newtons: u32,
 ) -> Result<Change, JobFault>
-    ensures change_or_first_ground { result ≡ place_change sized job.now.note hand walls.now wall newtons }
-    ensures place_of_a_wall { IfOk result (λ change. change.at < length walls.now) }
+    ensures change_or_first_ground { result ≡ place_change (state_of job.now registers.now) hand wall newtons }
+    ensures place_of_a_wall { IfOk result (λ change. change.at < length registers.now.walls.now) }
 {
-    let at = place_to_move(sized, walls, wall, newtons)?;
-    place_onto(job, hand, at, walls[at], newtons)
-}
-
-// The change that puts shear from the hand onto the wall at this place.
-fn place_onto(
-    job: &Job,
-    hand: Note,
-    at: usize,
-    row: WallRow,
-    newtons: u32,
-) -> Result<Change, JobFault>
-    ensures change_or_first_ground { result ≡ place_onto job.now.note hand newtons at row }
-    ensures at_this_place { IfOk result (λ change. change.at ≡ at) }
-{
+    let (at, row) = wall_to_move(registers, wall, newtons)?;
     if differs(hand, job.note) {
         return Err(JobFault::HandDiffers);
     }
-    if row.sheet.storey != hand.storey {
+    if row.member.sheet.storey != hand.storey {
         return Err(JobFault::OtherStorey);
     }
     if hand.newtons < newtons {
@@ -253,101 +150,79 @@ fn place_onto(
     if is_over_load(row, newtons) {
         return Err(JobFault::OverLoad);
     }
-    let row = carrying(row, row.carried + newtons);
+    let row = carrying(row, row.member.carried + newtons);
     let note = less(hand, newtons);
     Ok(Change { at, row, note })
 }
 
-// The place of a lawful wall, where so many newtons may be moved to or from it.
-fn place_to_move(sized: bool, walls: &[WallRow], wall: u32, newtons: u32) -> Result<usize, JobFault>
-    ensures place_or_first_ground { result ≡ place_to_move sized walls.now wall newtons }
-    ensures place_of_a_wall { IfOk result (λ at. at < length walls.now) }
-{
-    if !may_move(sized, wall, newtons) {
-        return Err(JobFault::Argument);
-    }
-    let Some(at) = find(walls, wall) else {
-        return Err(JobFault::Unknown);
-    };
-    let row = walls[at];
-    if !row.member().is_lawful() {
-        return Err(JobFault::Unlawful);
-    }
-    Ok(at)
-}
-
 // The change that puts the rest from the hand onto the wall that it came from.
-fn put_back_change(
-    sized: bool,
-    job: &Job,
-    hand: Note,
-    walls: &[WallRow],
-) -> Result<Change, JobFault>
-    ensures change_or_first_ground { result ≡ put_back_change sized job.now.note hand walls.now }
-    ensures place_of_a_wall { IfOk result (λ change. change.at < length walls.now) }
+fn put_back_change(job: &Job, registers: &Registers<'_>, hand: Note) -> Result<Change, JobFault>
+    ensures change_or_first_ground { result ≡ put_back_change (state_of job.now registers.now) hand }
+    ensures place_of_a_wall { IfOk result (λ change. change.at < length registers.now.walls.now) }
 {
-    if !sized {
+    if !registers.are_sized() {
         return Err(JobFault::Argument);
     }
     if differs(hand, job.note) {
         return Err(JobFault::HandDiffers);
     }
-    let Some(at) = find(walls, hand.wall) else {
-        return Err(JobFault::Unknown);
-    };
+    let (at, row) = lawful_wall_at(registers.walls, hand.wall)?;
+    if is_over_load(row, hand.newtons) {
+        return Err(JobFault::OverLoad);
+    }
+    let row = carrying(row, row.member.carried + hand.newtons);
+    let note = NO_SHEAR;
+    Ok(Change { at, row, note })
+}
+
+// A lawful wall's place and row, where so many newtons may be moved to or from it.
+fn wall_to_move(
+    registers: &Registers<'_>,
+    wall: u32,
+    newtons: u32,
+) -> Result<(usize, WallRow), JobFault>
+    ensures wall_or_first_ground { result ≡ wall_to_move (sized registers.now) registers.now.walls.now wall newtons }
+    ensures place_of_a_wall { IfOk result (λ found. found.0 < length registers.now.walls.now) }
+{
+    if !(registers.are_sized() && MARK.admits(wall) && NEWTONS.admits(newtons)) {
+        return Err(JobFault::Argument);
+    }
+    lawful_wall_at(registers.walls, wall)
+}
+
+// A lawful wall's place and row.
+fn lawful_wall_at(walls: &[WallRow], mark: u32) -> Result<(usize, WallRow), JobFault>
+    ensures wall_or_first_ground { result ≡ lawful_wall_at walls.now mark }
+    ensures place_of_a_wall { IfOk result (λ found. found.0 < length walls.now) }
+{
+    let at = find(walls, mark).ok_or(JobFault::Unknown)?;
     let row = walls[at];
     if !row.member().is_lawful() {
         return Err(JobFault::Unlawful);
     }
-    if is_over_load(row, hand.newtons) {
-        return Err(JobFault::OverLoad);
-    }
-    let row = carrying(row, row.carried + hand.newtons);
-    let note = empty_note();
-    Ok(Change { at, row, note })
-}
-
-// Whether a call may move so many newtons to or from a wall with this mark.
-fn may_move(sized: bool, wall: u32, newtons: u32) -> bool
-    ensures each_within_its_limits { result ≡ (sized && is_mark wall && is_newtons newtons) }
-{
-    sized && is_mark(wall) && is_newtons(newtons)
-}
-
-// Whether there is no shear in either.
-fn are_empty(hand: Note, noted: Note) -> bool
-    ensures no_shear_in_either { result ≡ (hand.newtons == 0 && noted.newtons == 0) }
-{
-    hand.newtons == 0 && noted.newtons == 0
-}
-
-// Whether two notes agree in all four numbers.
-fn same_note(a: Note, b: Note) -> bool
-    ensures all_four_agree { result ≡ same_note a b }
-{
-    a.job == b.job && a.wall == b.wall && a.storey == b.storey && a.newtons == b.newtons
+    Ok((at, row))
 }
 
 // Whether the hand is empty, or differs from what the job noted.
 fn differs(hand: Note, noted: Note) -> bool
     ensures empty_or_another { result ≡ differs_from hand noted }
 {
-    hand.newtons == 0 || !same_note(hand, noted)
+    hand.newtons == 0 || hand != noted
 }
 
 // Whether the wall would keep under seven tenths of its sheet's shear.
 fn keeps_too_little(row: WallRow, newtons: u32) -> bool
-    ensures under_seven_tenths { result ≡ nat_lt (10 * row.carried) (10 * newtons + 7 * row.sheet.shear) }
+    ensures under_seven_tenths { result ≡ nat_lt (10 * row.member.carried) (10 * newtons + 7 * row.member.sheet.shear) }
 {
-    let asked = 10 * u64::from(newtons) + 7 * u64::from(row.sheet.shear);
-    10 * u64::from(row.carried) < asked
+    let asked = 10 * u64::from(newtons) + 7 * u64::from(row.member.sheet.shear);
+    10 * u64::from(row.member.carried) < asked
 }
 
 // Whether the wall would carry over 10,000,000 N.
 fn is_over_load(row: WallRow, newtons: u32) -> bool
-    ensures over_10000000 { result ≡ nat_lt 10000000 (row.carried + newtons) }
+    ensures over_10000000 { result ≡ nat_lt 10000000 (row.member.carried + newtons) }
 {
-    u64::from(row.carried) + u64::from(newtons) > MOST_CARRIED
+    u64::from(row.member.carried) + u64::from(newtons) > MOST_CARRIED
 }
 
 // The note with so much less shear; at 0 N it is empty.
@@ -357,7 +232,7 @@ fn less(note: Note, newtons: u32) -> Note
 {
     let left = note.newtons - newtons;
     if left == 0 {
-        empty_note()
+        NO_SHEAR
     } else {
         Note {
             newtons: left,
@@ -371,8 +246,10 @@ fn carrying(row: WallRow, newtons: u32) -> WallRow
     ensures uncertified_with_this_shear { result ≡ carrying row newtons }
 {
     WallRow {
-        sheet: row.sheet,
+        member: Wall {
+            carried: newtons,
+            ..row.member
+        },
         certified: false,
-        carried: newtons,
     }
 }

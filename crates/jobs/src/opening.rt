@@ -1,11 +1,11 @@
 // The call that opens a job.
 ghost use Rattle.std.specs.Prelude.{◌≡◌};
-ghost use Rattle.jobs.specs.Views.{fresh, open_answer, open_state, state_of};
+ghost use Rattle.jobs.specs.Views.{StayLent, fresh, open_answer, open_state, state_of};
 
-use crate::hand::empty_note;
+use crate::hand::NO_SHEAR;
 use crate::job::Job;
 use crate::lent::Registers;
-use crate::limits::{are_sizes, is_mark};
+use crate::limits::MARK;
 use faults::fault::JobFault;
 use registers::register::clear;
 
@@ -14,16 +14,9 @@ use registers::register::clear;
 pub(crate) fn open_job(number: u32, registers: &mut Registers<'_>) -> Result<Job, JobFault>
     ensures job_of_this_number_or_refused { result ≡ open_answer number registers.old }
     ensures rows_of_zeros_or_as_they_were { state_of (fresh number) registers.new ≡ open_state number registers.old }
-    ensures beams_stay_lent { registers.new.beams.ghost_name ≡ registers.old.beams.ghost_name }
-    ensures columns_stay_lent { registers.new.columns.ghost_name ≡ registers.old.columns.ghost_name }
-    ensures walls_stay_lent { registers.new.walls.ghost_name ≡ registers.old.walls.ghost_name }
+    ensures registers_stay_lent { StayLent registers.old registers.new }
 {
-    let sized = are_sizes(
-        registers.beams.len(),
-        registers.columns.len(),
-        registers.walls.len(),
-    );
-    if !(sized && is_mark(number)) {
+    if !(registers.are_sized() && MARK.admits(number)) {
         return Err(JobFault::Argument);
     }
     clear(registers.beams);
@@ -31,6 +24,6 @@ pub(crate) fn open_job(number: u32, registers: &mut Registers<'_>) -> Result<Job
     clear(registers.walls);
     Ok(Job {
         number,
-        note: empty_note(),
+        note: NO_SHEAR,
     })
 }

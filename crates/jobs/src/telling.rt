@@ -6,7 +6,7 @@ ghost use Rattle.jobs.specs.Views.{state_of};
 
 use crate::job::Job;
 use crate::lent::Registers;
-use crate::limits::{are_sizes, is_storey};
+use crate::limits::STOREY;
 use faults::fault::JobFault;
 use law::answers::Sums;
 use registers::rows::WallRow;
@@ -19,12 +19,7 @@ pub(crate) fn tally_storey(
 ) -> Result<Sums, JobFault>
     ensures answers_by_its_grounds { (hand : Note) → result ≡ (tally_step (state_of job.now registers.now) hand storey).answer }
 {
-    let sized = are_sizes(
-        registers.beams.len(),
-        registers.columns.len(),
-        registers.walls.len(),
-    );
-    if !(sized && is_storey(storey)) {
+    if !(registers.are_sized() && STOREY.admits(storey)) {
         return Err(JobFault::Argument);
     }
     let (carried, sheets) = sums_on(registers.walls, storey);
@@ -35,20 +30,21 @@ pub(crate) fn tally_storey(
     })
 }
 
-// The shear that the walls of a storey carry, and the shear on their sheets, in N.
+// The shear that the walls of a storey carry, and the shear on their sheets, in N. Kept as a loop over the rows that are
+// lent: it sums two numbers at once, and ends where the register does.
 fn sums_on(walls: &[WallRow], storey: u32) -> (u64, u64)
     requires at_most_256_rows { length walls.now ≤ 256 }
-    ensures carried_by_the_walls { result.0 ≡ sum_on (λ w. w.carried) storey walls.now }
-    ensures on_their_sheets { result.1 ≡ sum_on (λ w. w.sheet.shear) storey walls.now }
+    ensures carried_by_the_walls { result.0 ≡ sum_on (λ w. w.member.carried) storey walls.now }
+    ensures on_their_sheets { result.1 ≡ sum_on (λ w. w.member.sheet.shear) storey walls.now }
 {
     let mut carried = 0;
     let mut sheets = 0;
     for wall in walls {
-        if wall.sheet.heading.mark == 0 {
+        if wall.member.sheet.heading.mark == 0 {
             break;
         }
-        carried += only_on(storey, wall.sheet.storey, wall.carried);
-        sheets += only_on(storey, wall.sheet.storey, wall.sheet.shear);
+        carried += only_on(storey, wall.member.sheet.storey, wall.member.carried);
+        sheets += only_on(storey, wall.member.sheet.storey, wall.member.sheet.shear);
     }
     (carried, sheets)
 }

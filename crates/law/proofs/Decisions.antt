@@ -2,7 +2,7 @@
 use Rattle.std.proofs.Common.{◌≡◌, true, false, ◌⊎◌, List, [], ◌∷◌, inl, inr}
 use Rattle.std.proofs.lemmas.Bool.{cond_both}
 use Rattle.faults.specs.declared.fault.JobFault.{JobFault}
-use Rattle.registers.specs.Filings.{Ground, decide}
+use Rattle.faults.specs.Grounds.{Ground, decide}
 
 -- some ground holds
 abbrev pub SomeHolds : List Ground → Type 0

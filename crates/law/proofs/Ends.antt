@@ -10,7 +10,7 @@ use Rattle.faults.specs.declared.fault.JobFault.TheVariants.{Argument}
 use Rattle.sheets.specs.declared.sheet.Sheet.{Sheet}
 use Rattle.sheets.specs.declared.sheet.Sheet.TheVariants as sheets
 use Rattle.messages.specs.Messages.{decoded}
-use Rattle.registers.specs.Filings.{◌when◌}
+use Rattle.faults.specs.Grounds.{◌when◌}
 use Rattle.registers.specs.declared.note.Note.{Note}
 use Rattle.law.specs.States.{State, Piles, Outcome, refused, empty, less, is_mark, is_storey, are_sized}
 use Rattle.law.specs.Steps.{file_read, by_kind, withdraw_from, judge_in, wall_found, moved, sums, put_back_step}
@@ -51,14 +51,14 @@ module _ (p : Piles) (s : State) (hand : Note) (agrees : hand ≡ s.note) where
     step_agrees (enter message) = decide_cases Agree ((Argument when not (are_sized s)) ∷ []) (refused s hand) (file_read s hand (decoded message)) (λ f some. agrees) (λ none. read_agrees (decoded message))
     step_agrees (withdraw k m) = decide_cases Agree ((Argument when not (are_sized s && is_mark m)) ∷ []) (refused s hand) (by_kind (kind_of k) (refused s hand) (withdraw_from s hand m)) (λ f some. agrees) (λ none. withdraw_agrees m (kind_of k))
     step_agrees (judge k m) = decide_cases Agree ((Argument when not (are_sized s && is_mark m)) ∷ []) (refused s hand) (by_kind (kind_of k) (refused s hand) (judge_in p s hand m)) (λ f some. agrees) (λ none. judge_agrees m (kind_of k))
-    step_agrees (lift m n) = decide_cases Agree (lift_grounds hand j m n) (refused s hand) (moved s m ((wall_found s m).carried - n) (record { job = s.number; wall = m; storey = (wall_found s m).sheet.storey; newtons = n })) (λ f some. agrees) (λ none. refl)
-    step_agrees (place m n) = decide_cases Agree (place_grounds hand j m n) (refused s hand) (moved s m ((wall_found s m).carried + n) (less hand n)) (λ f some. agrees) (λ none. refl)
-    step_agrees put_back = decide_cases Agree (put_back_grounds hand j) (refused s hand) (moved s hand.wall ((wall_found s hand.wall).carried + hand.newtons) empty) (λ f some. agrees) (λ none. refl)
+    step_agrees (lift m n) = decide_cases Agree (lift_grounds hand j m n) (refused s hand) (moved s m ((wall_found s m).member.carried - n) (record { job = s.number; wall = m; storey = (wall_found s m).member.sheet.storey; newtons = n })) (λ f some. agrees) (λ none. refl)
+    step_agrees (place m n) = decide_cases Agree (place_grounds hand j m n) (refused s hand) (moved s m ((wall_found s m).member.carried + n) (less hand n)) (λ f some. agrees) (λ none. refl)
+    step_agrees put_back = decide_cases Agree (put_back_grounds hand j) (refused s hand) (moved s hand.wall ((wall_found s hand.wall).member.carried + hand.newtons) empty) (λ f some. agrees) (λ none. refl)
     step_agrees (tally t) = decide_cases Agree ((Argument when not (are_sized s && is_storey t)) ∷ []) (refused s hand) (record { answer = Ok (sums s t); state = s; hand = hand }) (λ f some. agrees) (λ none. agrees)
 
     -- put back leaves the hand as it was, or empty
     back_leaves : (P : Result ℕ JobFault → Note → Type 0) → ((fault : JobFault) → P (Err fault) hand) → P (Ok 0) empty → P (put_back_step s hand).answer (put_back_step s hand).hand
-    back_leaves P refusal doing = decide_cases (λ o. P o.answer o.hand) (put_back_grounds hand j) (refused s hand) (moved s hand.wall ((wall_found s hand.wall).carried + hand.newtons) empty) (λ f some. refusal f) (λ none. doing)
+    back_leaves P refusal doing = decide_cases (λ o. P o.answer o.hand) (put_back_grounds hand j) (refused s hand) (moved s hand.wall ((wall_found s hand.wall).member.carried + hand.newtons) empty) (λ f some. refusal f) (λ none. doing)
 
 pub stays_in_step : (p : Piles) (act : Act) (before : State) (hand : Note) (after : State) (left : Note) → after ≡ (step p act hand before).state → left ≡ (step p act hand before).hand → StaysInStep p before hand after left
 stays_in_step p act before hand after left after_is left_is i =
@@ -70,7 +70,7 @@ stays_in_step p act before hand after left after_is left_is i =
 
 -- an answer that is given is no refusal
 never_refused : (fault : JobFault) (n : ℕ) → ◌≡◌ {A = Result Answer JobFault} (Err fault) (Ok (InHand n)) → ⊥
-never_refused fault n e = let z : ◌≡◌ {A = ℕ} 0 1 = cc in omega arith
+never_refused fault n e = cc
 
 empties : (p : Piles) (s : State) (hand : Note) → InStep p s hand → (put_back_step s hand).hand.newtons ≡ 0
 empties p s hand i =

@@ -16,7 +16,8 @@ use Rattle.books.specs.declared.answers.Verdict.TheVariants.{Certificate, Breaks
 use Rattle.books.proofs.Lowest.{lowest_clear, clear_lowest}
 use Rattle.registers.specs.Forms.{Form}
 use Rattle.registers.specs.Registers.{ending, find, row_at, with_row, closed_up}
-use Rattle.registers.specs.Filings.{Ground, ◌when◌, Filing, unfiled, ruled, judged}
+use Rattle.faults.specs.Grounds.{Ground, ◌when◌}
+use Rattle.registers.specs.Filings.{Filing, unfiled, ruled, judged}
 use Rattle.law.specs.Histories.{Event, History, same_kind, judges, withdraws, entered_by, changed_by, accepted, is_entered, is_changed, judged_since, joined, dropped, standing}
 use Rattle.law.specs.Laws.{StandsWhereEarned}
 use Rattle.law.proofs.Marks.{Absent, Distinct, all_front, all_back, distinct_out, distinct_push}
@@ -281,5 +282,4 @@ module _ {R M : Type 0} {form : Form R M} {lawful : M → Bool} {book : Meaning 
           (λ n sides broken.
           unchanged at (λ takes-it none.
           let clear : lowest (book.finding asked) 1 book.count ≡ Certificate = clear_certificate book asked (subst (λ x. NoneBrokenBelow book x (book.count + 1)) (sym asked_is) none) in
-          let z : ◌≡◌ {A = ℕ} 0 1 = cc in
-          omega arith)))
+          cc)))

@@ -6,7 +6,7 @@ use Rattle.tables.specs.declared.codes.Kind.{Kind}
 use Rattle.tables.specs.declared.codes.Kind.TheVariants as kinds
 use Rattle.faults.specs.declared.fault.SheetFault.{SheetFault}
 use Rattle.faults.specs.declared.fault.JobFault.{JobFault}
-use Rattle.faults.specs.declared.fault.JobFault.TheVariants.{Argument, Full, Filed, Unknown, ShearMoved}
+use Rattle.faults.specs.declared.fault.JobFault.TheVariants.{Argument, Full, Unknown, ShearMoved}
 use Rattle.faults.specs.declared.fault.JobFault.TheVariants as faults
 use Rattle.sheets.specs.Limits.{wall_limits}
 use Rattle.sheets.specs.Sheets.{kind_on, mark_on, wall_numbers}
@@ -19,14 +19,16 @@ use Rattle.messages.specs.Messages.{decoded}
 use Rattle.messages.proofs.Lawful.{decoded_lawful}
 use Rattle.members.specs.Members.{lawful_beam_member, lawful_column_member, lawful_wall}
 use Rattle.members.proofs.Kept.{keeps, most}
+use Rattle.members.specs.declared.member.Beam.{Beam}
+use Rattle.members.specs.declared.member.Column.{Column}
+use Rattle.members.specs.declared.member.Wall.{Wall}
 use Rattle.registers.specs.Forms.{Form}
 use Rattle.registers.specs.Registers.{ending, find}
-use Rattle.registers.specs.Filings.{Ground, ◌when◌, unfiled, entered}
+use Rattle.faults.specs.Grounds.{Ground, ◌when◌}
+use Rattle.registers.specs.Filings.{unfiled, entered}
 use Rattle.registers.specs.Rows.{beam_row, column_row, wall_row, beam_form, column_form, wall_form}
 use Rattle.registers.specs.declared.note.Note.{Note}
-use Rattle.registers.specs.declared.rows.BeamRow.{BeamRow}
-use Rattle.registers.specs.declared.rows.ColumnRow.{ColumnRow}
-use Rattle.registers.specs.declared.rows.WallRow.{WallRow}
+use Rattle.registers.specs.declared.rows.Filed.{Filed}
 use Rattle.law.specs.States.{State, Piles, Outcome, refused, is_size, are_sized, with_beams, with_columns, with_walls}
 use Rattle.law.specs.Steps.{on_beams, on_columns, on_walls, file_read, enter_step, noted_on}
 use Rattle.law.specs.Histories.{Act, enter, Event, History, same_kind, judges, is_entered, changed_by, moves_on, hand_after, sheet_read, joined, standing, in_hand}
@@ -51,13 +53,13 @@ pub record SoundJob (p : Piles) (h : History) (s : State) : Type 0 where
   pub balanced : Balanced s.note (walls_of walls.members)
 
 -- the sizes of the registers stay
-pub sized_beams : (s : State) (rows : List BeamRow) → length rows ≡ length s.beams → are_sized s ≡ true → are_sized (with_beams s rows) ≡ true
+pub sized_beams : (s : State) (rows : List (Filed Beam)) → length rows ≡ length s.beams → are_sized s ≡ true → are_sized (with_beams s rows) ≡ true
 sized_beams s rows same h = ap (λ n. is_size n && is_size (length s.columns) && is_size (length s.walls)) same ∙ h
 
-pub sized_columns : (s : State) (rows : List ColumnRow) → length rows ≡ length s.columns → are_sized s ≡ true → are_sized (with_columns s rows) ≡ true
+pub sized_columns : (s : State) (rows : List (Filed Column)) → length rows ≡ length s.columns → are_sized s ≡ true → are_sized (with_columns s rows) ≡ true
 sized_columns s rows same h = ap (λ n. is_size (length s.beams) && is_size n && is_size (length s.walls)) same ∙ h
 
-pub sized_walls : (s : State) (rows : List WallRow) → length rows ≡ length s.walls → are_sized s ≡ true → are_sized (with_walls s rows) ≡ true
+pub sized_walls : (s : State) (rows : List (Filed Wall)) → length rows ≡ length s.walls → are_sized s ≡ true → are_sized (with_walls s rows) ≡ true
 sized_walls s rows same h = ap (λ n. is_size (length s.beams) && is_size (length s.columns) && is_size n) same ∙ h
 
 -- nothing is moved in hand
@@ -108,7 +110,7 @@ module _ {p : Piles} {h : History} {s : State} (hand : Note) (j : SoundJob p h s
   -- Entering.
 
   abbrev enter_grounds : {R M : Type 0} → Form R M → R → List R → List Ground
-  enter_grounds form row rows = (Full when leb (length rows) (ending form rows)) ∷ (Filed when is_some (find form (form.mark row) rows)) ∷ []
+  enter_grounds form row rows = (Full when leb (length rows) (ending form rows)) ∷ (faults.Filed when is_some (find form (form.mark row) rows)) ∷ []
 
   beam_filed : (message : List ℕ) (b : BeamSheet) → decoded message ≡ Ok (sheets.Beam b) → After (enter message) (λ _. Done) (on_beams s hand (entered beam_form (beam_row b false) s.beams))
   beam_filed message b is =
@@ -140,7 +142,7 @@ module _ {p : Piles} {h : History} {s : State} (hand : Note) (j : SoundJob p h s
 
   wall_filed : (message : List ℕ) (w : WallSheet) → decoded message ≡ Ok (sheets.Wall w) → After (enter message) (λ _. Done) (on_walls s hand (entered wall_form (wall_row w false w.shear) s.walls))
   wall_filed message w is =
-      let row : WallRow = wall_row w false w.shear in
+      let row : Filed Wall = wall_row w false w.shear in
       let lawful-sheet-is = decoded_lawful message (sheets.Wall w) is in
       let top : w.shear ≤ 10000000 = most 0 10000000 w.shear (keeps wall_limits (wall_numbers w) lawful-sheet-is 11 (omega arith)) in
       let pushed = map_push wall_form.member j.walls.members row in

@@ -16,7 +16,8 @@ use Rattle.books.specs.declared.answers.Verdict.{Verdict}
 use Rattle.books.specs.declared.answers.Verdict.TheVariants.{Certificate, Breaks}
 use Rattle.registers.specs.Forms.{Form}
 use Rattle.registers.specs.Registers.{find, row_at, with_row}
-use Rattle.registers.specs.Filings.{◌when◌, unfiled, judged, ruled}
+use Rattle.faults.specs.Grounds.{◌when◌}
+use Rattle.registers.specs.Filings.{unfiled, judged, ruled}
 use Rattle.registers.specs.Rows.{beam_form, column_form, wall_form}
 use Rattle.registers.specs.declared.note.Note.{Note}
 use Rattle.law.specs.States.{State, Piles, refused, is_mark, are_sized}

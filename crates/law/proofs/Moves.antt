@@ -8,11 +8,12 @@ use Rattle.tables.specs.declared.codes.Kind.TheVariants as kinds
 use Rattle.faults.specs.declared.fault.JobFault.TheVariants.{Argument, Unknown, Unlawful, HandDiffers, UnderSevenTenths, OtherStorey, OverHand, OverLoad}
 use Rattle.faults.specs.declared.fault.JobFault.TheVariants as faults
 use Rattle.members.specs.Members.{lawful_wall}
+use Rattle.members.specs.declared.member.Wall.{Wall}
 use Rattle.registers.specs.Registers.{with_row}
-use Rattle.registers.specs.Filings.{Ground, ◌when◌}
+use Rattle.faults.specs.Grounds.{Ground, ◌when◌}
 use Rattle.registers.specs.Rows.{wall_form}
 use Rattle.registers.specs.declared.note.Note.{Note}
-use Rattle.registers.specs.declared.rows.WallRow.{WallRow}
+use Rattle.registers.specs.declared.rows.Filed.{Filed}
 use Rattle.law.specs.States.{State, Piles, refused, empty, less, same_note, is_mark, is_newtons, are_sized, with_walls, with_note}
 use Rattle.law.specs.Steps.{wall_place, wall_found, carrying, moved, is_unlawful, differs, lift_step, place_step, put_back_step, noted_on}
 use Rattle.law.specs.Histories.{Act, lift, place, put_back, Event, History, judges, withdraws, sheet_in, wall_moved, is_entered, is_changed, moves_on, hand_after, judged_since, standing, storey_of, joined, in_hand}
@@ -38,7 +39,7 @@ any_only P [] y ys no-before no-after h = ⊎_elim (λ p. p) (λ later. absurd (
 any_only P (x ∷ xs) y ys no-before no-after h = ⊎_elim (λ p. absurd (no-before.0 p)) (λ later. any_only P xs y ys no-before.1 no-after later) h
 
 -- rows without the noted mark do not back the note
-unbacked : (note : Note) (m : ℕ) → m ≡ note.wall → (rows : List WallRow) → Absent m (map wall_form.mark rows) → Each (λ w. Backed note w → ⊥) (walls_of rows)
+unbacked : (note : Note) (m : ℕ) → m ≡ note.wall → (rows : List (Filed Wall)) → Absent m (map wall_form.mark rows) → Each (λ w. Backed note w → ⊥) (walls_of rows)
 unbacked note m same [] absent = tt
 unbacked note m same (r ∷ rows) absent = (λ back. absent.0 (back.is ∙ sym same), unbacked note m same rows absent.1)
 
@@ -86,20 +87,20 @@ module _ {p : Piles} {h : History} {s : State} (hand : Note) (j : SoundJob p h s
     rows_after : with_row (wall_place s m) (carrying (wall_found s m) q) s.walls ≡ set s.walls (length at.before) (carrying at.row q)
     rows_after = ap (λ o. with_row o (carrying (wall_found s m) q) s.walls) place_is ∙ ap (λ w. set s.walls (length at.before) (carrying w q)) row_is
 
-    storey_is : storey_of m (standing kinds.Wall h) ≡ at.row.sheet.storey
+    storey_is : storey_of m (standing kinds.Wall h) ≡ at.row.member.sheet.storey
     storey_is = ap (storey_of m) (sym j.walls.sheets ∙ ap (map wall_form.sheet) at.spelled) ∙ storey_at m at.before at.row at.after at.is at.first
 
     split : walls_of j.walls.members ≡ walls_of at.before ++ wall_form.member at.row ∷ walls_of at.after
     split = ap walls_of at.spelled ∙ map-append wall_form.member at.before (at.row ∷ at.after)
 
-    moved_sound : lawful_wall (record { sheet = at.row.sheet; carried = q }) ≡ true
-        → ((t : ℕ) → cond (eqb at.row.sheet.storey t) q 0 + noted_on t note ≡ cond (eqb at.row.sheet.storey t) at.row.carried 0 + noted_on t s.note)
+    moved_sound : lawful_wall (record { sheet = at.row.member.sheet; carried = q }) ≡ true
+        → ((t : ℕ) → cond (eqb at.row.member.sheet.storey t) q 0 + noted_on t note ≡ cond (eqb at.row.member.sheet.storey t) at.row.member.carried 0 + noted_on t s.note)
         → (1 ≤ note.newtons → Any (Backed note) (walls_of at.before ++ wall_form.member (carrying at.row q) ∷ walls_of at.after))
-        → ((t : ℕ) → cond (eqb at.row.sheet.storey t) (hand_after act (noted_on t s.note)) (noted_on t s.note) ≡ noted_on t note)
+        → ((t : ℕ) → cond (eqb at.row.member.sheet.storey t) (hand_after act (noted_on t s.note)) (noted_on t s.note) ≡ noted_on t note)
         → After hand j act InHand (moved s m q note)
     moved_sound law balance backing holding =
         let e : Event = event act hand (Ok (InHand note.newtons)) in
-        let v : WallRow = carrying at.row q in
+        let v : Filed Wall = carrying at.row q in
         let rows = set s.walls (length at.before) v in
         let joined_back : walls_of (at.before ++ v ∷ at.after) ≡ walls_of at.before ++ wall_form.member v ∷ walls_of at.after = map-append wall_form.member at.before (v ∷ at.after) in
         subst (λ rs. SoundJob p (e ∷ h) (with_note (with_walls s rs) note)) (sym rows_after)
@@ -114,7 +115,7 @@ module _ {p : Piles} {h : History} {s : State} (hand : Note) (j : SoundJob p h s
           held = λ t.
               ap (λ o. cond (moves_on t (standing kinds.Wall h) o) (hand_after act (in_hand t h)) (in_hand t h)) moves
               ∙ (ap (λ n. cond (eqb n t) (hand_after act (in_hand t h)) (in_hand t h)) storey_is
-              ∙ (ap (λ n. cond (eqb at.row.sheet.storey t) (hand_after act n) n) (j.held t)
+              ∙ (ap (λ n. cond (eqb at.row.member.sheet.storey t) (hand_after act n) n) (j.held t)
               ∙ holding t));
           backed = λ some. subst (Any (Backed note)) (sym joined_back) (backing some);
           balanced = subst (Balanced note) (sym joined_back) (balanced_swap s.note note (walls_of at.before) (wall_form.member at.row) (wall_form.member v) (walls_of at.after) refl balance (subst (Balanced s.note) split j.balanced));
@@ -126,7 +127,7 @@ module _ {p : Piles} {h : History} {s : State} (hand : Note) (j : SoundJob p h s
       ∷ (Unknown when not (is_some (wall_place s m)))
       ∷ (Unlawful when is_unlawful (wall_found s m))
       ∷ (faults.InHand when not (eqb hand.newtons 0 && eqb s.note.newtons 0))
-      ∷ (UnderSevenTenths when ltb (10 * (wall_found s m).carried) (10 * n + 7 * (wall_found s m).sheet.shear))
+      ∷ (UnderSevenTenths when ltb (10 * (wall_found s m).member.carried) (10 * n + 7 * (wall_found s m).member.sheet.shear))
       ∷ []
 
   -- the wall that is found is lawful
@@ -146,24 +147,24 @@ module _ {p : Piles} {h : History} {s : State} (hand : Note) (j : SoundJob p h s
 
   pub lift_sound : (m n : ℕ) → After hand j (lift m n) InHand (lift_step s hand m n)
   lift_sound m n =
-      let w : WallRow = wall_found s m in
-      let note : Note = record { job = s.number; wall = m; storey = w.sheet.storey; newtons = n } in
-      decide_cases (After hand j (lift m n) InHand) (lift_grounds m n) (refused s hand) (moved s m (w.carried - n) note)
+      let w : Filed Wall = wall_found s m in
+      let note : Note = record { job = s.number; wall = m; storey = w.member.sheet.storey; newtons = n } in
+      decide_cases (After hand j (lift m n) InHand) (lift_grounds m n) (refused s hand) (moved s m (w.member.carried - n) note)
       (λ fault some. refused_sound hand j (lift m n) (λ kind i. refl) fault)
       (λ none.
       let meet = met (stand wall_laws m j.walls) none.1.0 in
       let law : lawful_wall (wall_form.member w) ≡ true = found_lawful m none.1.1.0 in
       let hands = and_parts (eqb hand.newtons 0) (eqb s.note.newtons 0) (not-false (eqb hand.newtons 0 && eqb s.note.newtons 0) none.1.1.1.0) in
       let idle : s.note.newtons ≡ 0 = eqb-true s.note.newtons 0 hands.1 in
-      let keeps : 10 * n + 7 * w.sheet.shear ≤ 10 * w.carried = ltb-false (10 * w.carried) (10 * n + 7 * w.sheet.shear) none.1.1.1.1.0 in
+      let keeps : 10 * n + 7 * w.member.sheet.shear ≤ 10 * w.member.carried = ltb-false (10 * w.member.carried) (10 * n + 7 * w.member.sheet.shear) none.1.1.1.1.0 in
       let top = wall_top (wall_form.member w) law in
-      moved_sound (lift m n) m (w.carried - n) note (λ kind i. refl) refl (λ kind i. refl) refl (found_at meet) meet.place refl
-      (wall_lawful (record { sheet = w.sheet; carried = w.carried - n }) (wall_sheet_lawful (wall_form.member w) law) (omega arith) (omega arith))
-      (λ t. omega (arith, lifted_share (eqb w.sheet.storey t) w.carried n (omega arith), noted_none t s.note idle))
-      (λ some. any_at (Backed note) (walls_of meet.at.before) (wall_form.member (carrying w (w.carried - n))) (walls_of meet.at.after) (record { is = (found_at meet).is; level = refl; room = omega arith }))
+      moved_sound (lift m n) m (w.member.carried - n) note (λ kind i. refl) refl (λ kind i. refl) refl (found_at meet) meet.place refl
+      (wall_lawful (record { sheet = w.member.sheet; carried = w.member.carried - n }) (wall_sheet_lawful (wall_form.member w) law) (omega arith) (omega arith))
+      (λ t. omega (arith, lifted_share (eqb w.member.sheet.storey t) w.member.carried n (omega arith), noted_none t s.note idle))
+      (λ some. any_at (Backed note) (walls_of meet.at.before) (wall_form.member (carrying w (w.member.carried - n))) (walls_of meet.at.after) (record { is = (found_at meet).is; level = refl; room = omega arith }))
       (λ t.
-      ap (λ x. cond (eqb w.sheet.storey t) (x + n) x) (noted_none t s.note idle)
-      ∙ ap (λ x. cond (eqb w.sheet.storey t) x 0) (zero-add n)))
+      ap (λ x. cond (eqb w.member.sheet.storey t) (x + n) x) (noted_none t s.note idle)
+      ∙ ap (λ x. cond (eqb w.member.sheet.storey t) x 0) (zero-add n)))
 
   -- the hand agrees with the job's note, and is not empty
   agrees : differs s hand ≡ false → (hand ≡ s.note) × (1 ≤ hand.newtons)
@@ -178,45 +179,45 @@ module _ {p : Piles} {h : History} {s : State} (hand : Note) (j : SoundJob p h s
       ∷ (Unknown when not (is_some (wall_place s m)))
       ∷ (Unlawful when is_unlawful (wall_found s m))
       ∷ (HandDiffers when differs s hand)
-      ∷ (OtherStorey when not (eqb (wall_found s m).sheet.storey hand.storey))
+      ∷ (OtherStorey when not (eqb (wall_found s m).member.sheet.storey hand.storey))
       ∷ (OverHand when ltb hand.newtons n)
-      ∷ (OverLoad when ltb 10000000 ((wall_found s m).carried + n))
+      ∷ (OverLoad when ltb 10000000 ((wall_found s m).member.carried + n))
       ∷ []
 
   pub place_sound : (m n : ℕ) → After hand j (place m n) InHand (place_step s hand m n)
   place_sound m n =
-      let w : WallRow = wall_found s m in
+      let w : Filed Wall = wall_found s m in
       let note : Note = less hand n in
-      decide_cases (After hand j (place m n) InHand) (place_grounds m n) (refused s hand) (moved s m (w.carried + n) note)
+      decide_cases (After hand j (place m n) InHand) (place_grounds m n) (refused s hand) (moved s m (w.member.carried + n) note)
       (λ fault some. refused_sound hand j (place m n) (λ kind i. refl) fault)
       (λ none.
       let meet = met (stand wall_laws m j.walls) none.1.0 in
       let law : lawful_wall (wall_form.member w) ≡ true = found_lawful m none.1.1.0 in
       let agree = agrees none.1.1.1.0 in
-      let level : w.sheet.storey ≡ hand.storey = eqb-true w.sheet.storey hand.storey (not-false (eqb w.sheet.storey hand.storey) none.1.1.1.1.0) in
+      let level : w.member.sheet.storey ≡ hand.storey = eqb-true w.member.sheet.storey hand.storey (not-false (eqb w.member.sheet.storey hand.storey) none.1.1.1.1.0) in
       let enough : n ≤ hand.newtons = ltb-false hand.newtons n none.1.1.1.1.1.0 in
-      let room : w.carried + n ≤ 10000000 = ltb-false 10000000 (w.carried + n) none.1.1.1.1.1.1.0 in
+      let room : w.member.carried + n ≤ 10000000 = ltb-false 10000000 (w.member.carried + n) none.1.1.1.1.1.1.0 in
       let floor = wall_floor (wall_form.member w) law in
-      moved_sound (place m n) m (w.carried + n) note (λ kind i. refl) refl (λ kind i. refl) refl (found_at meet) meet.place refl
-      (wall_lawful (record { sheet = w.sheet; carried = w.carried + n }) (wall_sheet_lawful (wall_form.member w) law) (omega arith) room)
+      moved_sound (place m n) m (w.member.carried + n) note (λ kind i. refl) refl (λ kind i. refl) refl (found_at meet) meet.place refl
+      (wall_lawful (record { sheet = w.member.sheet; carried = w.member.carried + n }) (wall_sheet_lawful (wall_form.member w) law) (omega arith) room)
       (λ t.
-      let at_hand : eqb w.sheet.storey t ≡ eqb hand.storey t = ap (λ x. eqb x t) level in
-      ap (λ b. cond b (w.carried + n) 0 + noted_on t (less hand n)) at_hand
-      ∙ (ap (λ x. cond (eqb hand.storey t) (w.carried + n) 0 + x) (noted_less t hand n)
-      ∙ (placed_share (eqb hand.storey t) w.carried n hand.newtons enough
-      ∙ (ap (λ b. cond b w.carried 0 + noted_on t hand) (sym at_hand)
-      ∙ ap (λ x. cond (eqb w.sheet.storey t) w.carried 0 + noted_on t x) agree.0))))
+      let at_hand : eqb w.member.sheet.storey t ≡ eqb hand.storey t = ap (λ x. eqb x t) level in
+      ap (λ b. cond b (w.member.carried + n) 0 + noted_on t (less hand n)) at_hand
+      ∙ (ap (λ x. cond (eqb hand.storey t) (w.member.carried + n) 0 + x) (noted_less t hand n)
+      ∙ (placed_share (eqb hand.storey t) w.member.carried n hand.newtons enough
+      ∙ (ap (λ b. cond b w.member.carried 0 + noted_on t hand) (sym at_hand)
+      ∙ ap (λ x. cond (eqb w.member.sheet.storey t) w.member.carried 0 + noted_on t x) agree.0))))
       (λ some.
       let open-note = less_open hand n some in
-      subst (λ x. Any (Backed x) (walls_of meet.at.before ++ wall_form.member (carrying w (w.carried + n)) ∷ walls_of meet.at.after)) (sym open-note)
+      subst (λ x. Any (Backed x) (walls_of meet.at.before ++ wall_form.member (carrying w (w.member.carried + n)) ∷ walls_of meet.at.after)) (sym open-note)
       (any_swap (Backed hand) (Backed (record { job = hand.job; wall = hand.wall; storey = hand.storey; newtons = hand.newtons - n }))
       (λ x back. record { is = back.is; level = back.level; room = omega (arith, back.room) })
-      (walls_of meet.at.before) (wall_form.member w) (wall_form.member (carrying w (w.carried + n))) (walls_of meet.at.after)
+      (walls_of meet.at.before) (wall_form.member w) (wall_form.member (carrying w (w.member.carried + n))) (walls_of meet.at.after)
       (λ back. record { is = back.is; level = back.level; room = omega (arith, back.room, enough) })
       (subst (λ x. Any (Backed x) (walls_of meet.at.before ++ wall_form.member w ∷ walls_of meet.at.after)) (sym agree.0)
       (subst (Any (Backed s.note)) (ap walls_of (found_at meet).spelled ∙ map-append wall_form.member meet.at.before (w ∷ meet.at.after)) (j.backed (subst (λ x. 1 ≤ x.newtons) agree.0 agree.1))))))
       (λ t.
-      ap (λ x. cond (eqb w.sheet.storey t) (noted_on t x - n) (noted_on t x)) (sym agree.0)
+      ap (λ x. cond (eqb w.member.sheet.storey t) (noted_on t x - n) (noted_on t x)) (sym agree.0)
       ∙ (ap (λ x. cond (eqb x t) (noted_on t hand - n) (noted_on t hand)) level
       ∙ (taken_off (eqb hand.storey t) hand.newtons n ∙ sym (noted_less t hand n)))))
     where
@@ -230,7 +231,7 @@ module _ {p : Piles} {h : History} {s : State} (hand : Note) (j : SoundJob p h s
       ∷ (HandDiffers when differs s hand)
       ∷ (Unknown when not (is_some (wall_place s hand.wall)))
       ∷ (Unlawful when is_unlawful (wall_found s hand.wall))
-      ∷ (OverLoad when ltb 10000000 ((wall_found s hand.wall).carried + hand.newtons))
+      ∷ (OverLoad when ltb 10000000 ((wall_found s hand.wall).member.carried + hand.newtons))
       ∷ []
 
   -- the wall at the noted mark backs the note
@@ -244,29 +245,29 @@ module _ {p : Piles} {h : History} {s : State} (hand : Note) (j : SoundJob p h s
   pub put_back_sound : After hand j put_back InHand (put_back_step s hand)
   put_back_sound =
       let m : ℕ = hand.wall in
-      let w : WallRow = wall_found s m in
-      decide_cases (After hand j put_back InHand) put_back_grounds (refused s hand) (moved s m (w.carried + hand.newtons) empty)
+      let w : Filed Wall = wall_found s m in
+      decide_cases (After hand j put_back InHand) put_back_grounds (refused s hand) (moved s m (w.member.carried + hand.newtons) empty)
       (λ fault some. refused_sound hand j put_back (λ kind i. refl) fault)
       (λ none.
       let agree = agrees none.1.0 in
       let meet = met (stand wall_laws m j.walls) none.1.1.0 in
       let law : lawful_wall (wall_form.member w) ≡ true = found_lawful m none.1.1.1.0 in
-      let room : w.carried + hand.newtons ≤ 10000000 = ltb-false 10000000 (w.carried + hand.newtons) none.1.1.1.1.0 in
+      let room : w.member.carried + hand.newtons ≤ 10000000 = ltb-false 10000000 (w.member.carried + hand.newtons) none.1.1.1.1.0 in
       let floor = wall_floor (wall_form.member w) law in
       let back = backed_at (found_at meet) (ap (λ x. x.wall) agree.0) (subst (λ x. 1 ≤ x.newtons) agree.0 agree.1) in
-      let level : w.sheet.storey ≡ hand.storey = back.level ∙ ap (λ x. x.storey) (sym agree.0) in
-      moved_sound put_back m (w.carried + hand.newtons) empty (λ kind i. refl) refl (λ kind i. refl) refl (found_at meet) meet.place refl
-      (wall_lawful (record { sheet = w.sheet; carried = w.carried + hand.newtons }) (wall_sheet_lawful (wall_form.member w) law) (omega arith) room)
+      let level : w.member.sheet.storey ≡ hand.storey = back.level ∙ ap (λ x. x.storey) (sym agree.0) in
+      moved_sound put_back m (w.member.carried + hand.newtons) empty (λ kind i. refl) refl (λ kind i. refl) refl (found_at meet) meet.place refl
+      (wall_lawful (record { sheet = w.member.sheet; carried = w.member.carried + hand.newtons }) (wall_sheet_lawful (wall_form.member w) law) (omega arith) room)
       (λ t.
-      let at_hand : eqb w.sheet.storey t ≡ eqb hand.storey t = ap (λ x. eqb x t) level in
-      ap (λ b. cond b (w.carried + hand.newtons) 0 + noted_on t empty) at_hand
-      ∙ (ap (λ x. cond (eqb hand.storey t) (w.carried + hand.newtons) 0 + x) (noted_none t empty refl)
-      ∙ (given_back (eqb hand.storey t) w.carried hand.newtons
-      ∙ (ap (λ b. cond b w.carried 0 + noted_on t hand) (sym at_hand)
-      ∙ ap (λ x. cond (eqb w.sheet.storey t) w.carried 0 + noted_on t x) agree.0))))
+      let at_hand : eqb w.member.sheet.storey t ≡ eqb hand.storey t = ap (λ x. eqb x t) level in
+      ap (λ b. cond b (w.member.carried + hand.newtons) 0 + noted_on t empty) at_hand
+      ∙ (ap (λ x. cond (eqb hand.storey t) (w.member.carried + hand.newtons) 0 + x) (noted_none t empty refl)
+      ∙ (given_back (eqb hand.storey t) w.member.carried hand.newtons
+      ∙ (ap (λ b. cond b w.member.carried 0 + noted_on t hand) (sym at_hand)
+      ∙ ap (λ x. cond (eqb w.member.sheet.storey t) w.member.carried 0 + noted_on t x) agree.0))))
       (λ some. absurd (omega arith))
       (λ t.
-      ap (λ x. cond (eqb w.sheet.storey t) 0 (noted_on t x)) (sym agree.0)
+      ap (λ x. cond (eqb w.member.sheet.storey t) 0 (noted_on t x)) (sym agree.0)
       ∙ (ap (λ x. cond (eqb x t) 0 (noted_on t hand)) level
       ∙ (all_gone (eqb hand.storey t) hand.newtons ∙ sym (noted_none t empty refl)))))
     where
@@ -279,13 +280,13 @@ module _ {p : Piles} {h : History} {s : State} (hand : Note) (j : SoundJob p h s
       all_gone false n = refl
 
 -- the wall that a job's note names stands there, is lawful, and has room for what is noted
-pub wall_of_note : {p : Piles} {h : History} {s : State} (hand : Note) (j : SoundJob p h s) → 1 ≤ s.note.newtons → (not (is_some (wall_place s s.note.wall)) ≡ false) × (is_unlawful (wall_found s s.note.wall) ≡ false) × (ltb 10000000 ((wall_found s s.note.wall).carried + s.note.newtons) ≡ false)
+pub wall_of_note : {p : Piles} {h : History} {s : State} (hand : Note) (j : SoundJob p h s) → 1 ≤ s.note.newtons → (not (is_some (wall_place s s.note.wall)) ≡ false) × (is_unlawful (wall_found s s.note.wall) ≡ false) × (ltb 10000000 ((wall_found s s.note.wall).member.carried + s.note.newtons) ≡ false)
 wall_of_note {p} {h} {s} hand j some = by (stand wall_laws s.note.wall j.walls)
   where
-    by : Stand s.note.wall j.walls → (not (is_some (wall_place s s.note.wall)) ≡ false) × (is_unlawful (wall_found s s.note.wall) ≡ false) × (ltb 10000000 ((wall_found s s.note.wall).carried + s.note.newtons) ≡ false)
+    by : Stand s.note.wall j.walls → (not (is_some (wall_place s s.note.wall)) ≡ false) × (is_unlawful (wall_found s s.note.wall) ≡ false) × (ltb 10000000 ((wall_found s s.note.wall).member.carried + s.note.newtons) ≡ false)
     by (there at place_is row_is later) = (
       ap (λ o. not (is_some o)) place_is,
       ap (λ r. not (lawful_wall (wall_form.member r))) row_is ∙ ap not (row_lawful j.walls at),
-      ap (λ r. ltb 10000000 (r.carried + s.note.newtons)) row_is ∙ le-ltb 10000000 (at.row.carried + s.note.newtons) (backed_at hand j at refl some).room,
+      ap (λ r. ltb 10000000 (r.member.carried + s.note.newtons)) row_is ∙ le-ltb 10000000 (at.row.member.carried + s.note.newtons) (backed_at hand j at refl some).room,
     )
     by (nowhere absent none) = absurd (any_none (Backed s.note) (walls_of j.walls.members) (unbacked s.note s.note.wall refl j.walls.members absent) (j.backed some))

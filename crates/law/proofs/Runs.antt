@@ -8,7 +8,7 @@ use Rattle.faults.specs.declared.fault.JobFault.{JobFault}
 use Rattle.members.specs.Members.{lawful_beam_member, lawful_column_member, lawful_wall, beam_measure, column_measure, wall_measure}
 use Rattle.specifications.proofs.Stays.{stays_named}
 use Rattle.registers.specs.Registers.{filed}
-use Rattle.registers.specs.Filings.{Ground, decide}
+use Rattle.faults.specs.Grounds.{Ground, decide}
 use Rattle.registers.specs.Rows.{wall_form}
 use Rattle.registers.specs.declared.note.Note.{Note}
 use Rattle.law.specs.States.{State, Piles, refused, empty, same_note, is_mark, is_storey, are_sized}
@@ -59,16 +59,16 @@ reached_sound {p} (opening number b c w fit) = open_sound p number b c w fit
 reached_sound {p} (call {h} {s} before act hand) = step_sound p h s act hand (reached_sound before)
 
 module _ {p : Piles} {h : History} {s : State} (j : SoundJob p h s) where
-  carried_sum : (t : ℕ) → sum_on (λ w. w.carried) t s.walls ≡ total carried t (walls_of j.walls.members)
-  carried_sum t = ap (sum_on (λ w. w.carried) t) j.walls.spelled ∙ sum_spare carried t j.walls.members j.walls.spare (marked wall_laws j.walls.members j.walls.lawfuls)
+  carried_sum : (t : ℕ) → sum_on (λ w. w.member.carried) t s.walls ≡ total carried t (walls_of j.walls.members)
+  carried_sum t = ap (sum_on (λ w. w.member.carried) t) j.walls.spelled ∙ sum_spare carried t j.walls.members j.walls.spare (marked wall_laws j.walls.members j.walls.lawfuls)
 
-  sheet_sum : (t : ℕ) → sum_on (λ w. w.sheet.shear) t s.walls ≡ sheets_shear t (standing kinds.Wall h)
+  sheet_sum : (t : ℕ) → sum_on (λ w. w.member.sheet.shear) t s.walls ≡ sheets_shear t (standing kinds.Wall h)
   sheet_sum t =
-      ap (sum_on (λ w. w.sheet.shear) t) j.walls.spelled
+      ap (sum_on (λ w. w.member.sheet.shear) t) j.walls.spelled
       ∙ (sum_spare shear t j.walls.members j.walls.spare (marked wall_laws j.walls.members j.walls.lawfuls)
       ∙ (sym (sheets_total t j.walls.members) ∙ ap (sheets_shear t) j.walls.sheets))
 
-  balance_kept : (t : ℕ) → sum_on (λ w. w.carried) t s.walls + in_hand t h ≡ sheets_shear t (standing kinds.Wall h)
+  balance_kept : (t : ℕ) → sum_on (λ w. w.member.carried) t s.walls + in_hand t h ≡ sheets_shear t (standing kinds.Wall h)
   balance_kept t =
       let c = carried_sum t in
       let e = j.held t in
@@ -76,22 +76,22 @@ module _ {p : Piles} {h : History} {s : State} (j : SoundJob p h s) where
       let q : sheets_shear t (standing kinds.Wall h) ≡ total shear t (walls_of j.walls.members) = ap (sheets_shear t) (sym j.walls.sheets) ∙ sheets_total t j.walls.members in
       omega (arith, c, e, b, q)
 
-  tally_kept : (t : ℕ) (hand : Note) → is_storey t ≡ true → (step p (tally t) hand s).answer ≡ Ok (Tallied (record { carried = sum_on (λ w. w.carried) t s.walls; in_hand = in_hand t h; sheets = sheets_shear t (standing kinds.Wall h) }))
+  tally_kept : (t : ℕ) (hand : Note) → is_storey t ≡ true → (step p (tally t) hand s).answer ≡ Ok (Tallied (record { carried = sum_on (λ w. w.member.carried) t s.walls; in_hand = in_hand t h; sheets = sheets_shear t (standing kinds.Wall h) }))
   tally_kept t hand fit =
       ap (λ o. renamed Tallied o.answer) (cond-false (not (are_sized s && is_storey t)) (refused s hand _) (record { answer = Ok (sums s t); state = s; hand = hand }) (ap not (and_from (are_sized s) (is_storey t) j.sized fit)))
-      ∙ (ap (λ x. Ok (Tallied (record { carried = sum_on (λ w. w.carried) t s.walls; in_hand = x; sheets = sum_on (λ w. w.sheet.shear) t s.walls }))) (sym (j.held t))
-      ∙ ap (λ x. Ok (Tallied (record { carried = sum_on (λ w. w.carried) t s.walls; in_hand = in_hand t h; sheets = x }))) (sheet_sum t))
+      ∙ (ap (λ x. Ok (Tallied (record { carried = sum_on (λ w. w.member.carried) t s.walls; in_hand = x; sheets = sum_on (λ w. w.member.sheet.shear) t s.walls }))) (sym (j.held t))
+      ∙ ap (λ x. Ok (Tallied (record { carried = sum_on (λ w. w.member.carried) t s.walls; in_hand = in_hand t h; sheets = x }))) (sheet_sum t))
 
-  floor_kept : Each (λ w. 7 * w.sheet.shear ≤ 10 * w.carried) (filed wall_form s.walls)
+  floor_kept : Each (λ w. 7 * w.member.sheet.shear ≤ 10 * w.member.carried) (filed wall_form s.walls)
   floor_kept =
-      subst (Each (λ w. 7 * w.sheet.shear ≤ 10 * w.carried)) (sym (ap (filed wall_form) j.walls.spelled ∙ filed_spare wall_form refl j.walls.members j.walls.spare (marked wall_laws j.walls.members j.walls.lawfuls)))
-      (All-weaker (λ r. lawful_wall (wall_form.member r) ≡ true) (λ w. 7 * w.sheet.shear ≤ 10 * w.carried) (λ r law. wall_floor (wall_form.member r) law) j.walls.members j.walls.lawfuls)
+      subst (Each (λ w. 7 * w.member.sheet.shear ≤ 10 * w.member.carried)) (sym (ap (filed wall_form) j.walls.spelled ∙ filed_spare wall_form refl j.walls.members j.walls.spare (marked wall_laws j.walls.members j.walls.lawfuls)))
+      (All-weaker (λ r. lawful_wall (wall_form.member r) ≡ true) (λ w. 7 * w.member.sheet.shear ≤ 10 * w.member.carried) (λ r law. wall_floor (wall_form.member r) law) j.walls.members j.walls.lawfuls)
 
   back_kept : 1 ≤ s.note.newtons → (step p put_back s.note s).answer ≡ Ok (InHand 0)
   back_kept some =
       let w = wall_found s s.note.wall in
       let found = wall_of_note s.note j some in
-      ap (λ o. renamed InHand o.answer) (decide_done (put_back_grounds s.note j) (refused s s.note) (moved s s.note.wall (w.carried + s.note.newtons) empty)
+      ap (λ o. renamed InHand o.answer) (decide_done (put_back_grounds s.note j) (refused s s.note) (moved s s.note.wall (w.member.carried + s.note.newtons) empty)
       (ap not j.sized, (or_from (eqb s.note.newtons 0) (not (same_note s.note s.note)) (ne_eqb s.note.newtons 0 (λ e. absurd (omega arith))) (ap not (itself s.note)), (found.0, (found.1, (found.2, tt))))))
     where
       itself : (n : Note) → same_note n n ≡ true

@@ -8,7 +8,7 @@ use Rattle.members.specs.declared.member.Wall.{Wall}
 use Rattle.registers.specs.Registers.{free}
 use Rattle.registers.specs.Rows.{wall_form}
 use Rattle.registers.specs.declared.note.Note.{Note}
-use Rattle.registers.specs.declared.rows.WallRow.{WallRow}
+use Rattle.registers.specs.declared.rows.Filed.{Filed}
 use Rattle.law.specs.States.{empty, less}
 use Rattle.law.specs.Steps.{sum_on, noted_on}
 use Rattle.law.specs.Histories.{storey_of, sheets_shear}
@@ -35,25 +35,25 @@ total_append number t [] ys = omega arith
 total_append number t (w ∷ ws) ys = ap (λ n. share number t w + n) (total_append number t ws ys) ∙ omega arith
 
 -- the members of rows
-abbrev pub walls_of : List WallRow → List Wall
+abbrev pub walls_of : List (Filed Wall) → List Wall
 walls_of rows = map wall_form.member rows
 
-pub sum_spare : (number : Wall → ℕ) (t : ℕ) (rows : List WallRow) (spare : ℕ) → Marked wall_form rows → sum_on (λ w. number (wall_form.member w)) t (rows ++ replicate spare wall_form.blank) ≡ total number t (walls_of rows)
+pub sum_spare : (number : Wall → ℕ) (t : ℕ) (rows : List (Filed Wall)) (spare : ℕ) → Marked wall_form rows → sum_on (λ w. number (wall_form.member w)) t (rows ++ replicate spare wall_form.blank) ≡ total number t (walls_of rows)
 sum_spare number t [] zero marked = refl
 sum_spare number t [] (suc spare) marked = refl
 sum_spare number t (w ∷ rows) spare marked =
     cond-false (free wall_form w) 0 (share number t (wall_form.member w) + sum_on (λ w. number (wall_form.member w)) t (rows ++ replicate spare wall_form.blank)) marked.0
     ∙ ap (λ n. share number t (wall_form.member w) + n) (sum_spare number t rows spare marked.1)
 
-pub sheets_total : (t : ℕ) (rows : List WallRow) → sheets_shear t (map wall_form.sheet rows) ≡ total shear t (walls_of rows)
+pub sheets_total : (t : ℕ) (rows : List (Filed Wall)) → sheets_shear t (map wall_form.sheet rows) ≡ total shear t (walls_of rows)
 sheets_total t [] = refl
 sheets_total t (w ∷ rows) = ap (λ n. share shear t (wall_form.member w) + n) (sheets_total t rows)
 
 -- the storey of the wall at a mark
-pub storey_at : (m : ℕ) (before : List WallRow) (row : WallRow) (after : List WallRow) → wall_form.mark row ≡ m → Absent m (map wall_form.mark before) → storey_of m (map wall_form.sheet (before ++ row ∷ after)) ≡ row.sheet.storey
-storey_at m [] row after is absent = cond-true (eqb (wall_form.mark row) m) row.sheet.storey (storey_of m (map wall_form.sheet after)) (eq-eqb (wall_form.mark row) m is)
+pub storey_at : (m : ℕ) (before : List (Filed Wall)) (row : Filed Wall) (after : List (Filed Wall)) → wall_form.mark row ≡ m → Absent m (map wall_form.mark before) → storey_of m (map wall_form.sheet (before ++ row ∷ after)) ≡ row.member.sheet.storey
+storey_at m [] row after is absent = cond-true (eqb (wall_form.mark row) m) row.member.sheet.storey (storey_of m (map wall_form.sheet after)) (eq-eqb (wall_form.mark row) m is)
 storey_at m (b ∷ before) row after is absent =
-    cond-false (eqb (wall_form.mark b) m) b.sheet.storey (storey_of m (map wall_form.sheet (before ++ row ∷ after))) (ne_eqb (wall_form.mark b) m absent.0)
+    cond-false (eqb (wall_form.mark b) m) b.member.sheet.storey (storey_of m (map wall_form.sheet (before ++ row ∷ after))) (ne_eqb (wall_form.mark b) m absent.0)
     ∙ storey_at m before row after is absent.1
 
 -- Balance.

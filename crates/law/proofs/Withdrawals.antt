@@ -10,7 +10,8 @@ use Rattle.messages.proofs.Canonicals.{kind_numbered}
 use Rattle.books.specs.Meanings.{Meaning}
 use Rattle.registers.specs.Forms.{Form}
 use Rattle.registers.specs.Registers.{find, row_at, closed_up, without}
-use Rattle.registers.specs.Filings.{Ground, ◌when◌, unfiled, withdrawn}
+use Rattle.faults.specs.Grounds.{Ground, ◌when◌}
+use Rattle.registers.specs.Filings.{unfiled, withdrawn}
 use Rattle.registers.specs.Rows.{beam_form, column_form, wall_form, in_hand_from}
 use Rattle.registers.specs.declared.note.Note.{Note}
 use Rattle.law.specs.States.{State, Piles, refused, is_mark, is_storey, are_sized, with_beams, with_columns, with_walls}
@@ -115,8 +116,8 @@ module _ {p : Piles} {h : History} {s : State} (hand : Note) (j : SoundJob p h s
       let meet = met (stand wall_laws m j.walls) none.0 in
       let at = meet.at in
       let still : wall_form.moved s.note at.row ≡ false = ap (wall_form.moved s.note) (sym meet.row_is) ∙ none.1.0 in
-      let parts = or_parts (not (eqb at.row.carried at.row.sheet.shear)) (in_hand_from s.note at.row.sheet.heading.mark) still in
-      let own : at.row.carried ≡ at.row.sheet.shear = eqb-true at.row.carried at.row.sheet.shear (not-false (eqb at.row.carried at.row.sheet.shear) parts.0) in
+      let parts = or_parts (not (eqb at.row.member.carried at.row.member.sheet.shear)) (in_hand_from s.note at.row.member.sheet.heading.mark) still in
+      let own : at.row.member.carried ≡ at.row.member.sheet.shear = eqb-true at.row.member.carried at.row.member.sheet.shear (not-false (eqb at.row.member.carried at.row.member.sheet.shear) parts.0) in
       let split : walls_of j.walls.members ≡ walls_of at.before ++ wall_form.member at.row ∷ walls_of at.after = ap walls_of at.spelled ∙ map-append wall_form.member at.before (at.row ∷ at.after) in
       let joined_back : walls_of (at.before ++ at.after) ≡ walls_of at.before ++ walls_of at.after = map-append wall_form.member at.before at.after in
       subst (λ rows. SoundJob p (event (withdraw k m) hand (Ok Done) ∷ h) (with_walls s rows)) (sym (closed_is hand k m is wall_laws j.walls meet))
@@ -126,7 +127,7 @@ module _ {p : Piles} {h : History} {s : State} (hand : Note) (j : SoundJob p h s
         walls = closed_sound hand k m is wall_laws j.walls meet;
         sized = sized_walls s (closed_up wall_form (length at.before) s.walls) (closed_length hand k m is wall_laws j.walls meet) j.sized;
         held = j.held;
-        backed = λ some. subst (Any (Backed s.note)) (sym joined_back) (any_out (Backed s.note) (walls_of at.before) (wall_form.member at.row) (walls_of at.after) (λ back. not_from s.note at.row.sheet.heading.mark some parts.1 (sym back.is)) (subst (Any (Backed s.note)) split (j.backed some)));
+        backed = λ some. subst (Any (Backed s.note)) (sym joined_back) (any_out (Backed s.note) (walls_of at.before) (wall_form.member at.row) (walls_of at.after) (λ back. not_from s.note at.row.member.sheet.heading.mark some parts.1 (sym back.is)) (subst (Any (Backed s.note)) split (j.backed some)));
         balanced = subst (Balanced s.note) (sym joined_back) (balanced_out s.note (walls_of at.before) (wall_form.member at.row) (walls_of at.after) own (subst (Balanced s.note) split j.balanced));
       }))
     where

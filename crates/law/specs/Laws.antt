@@ -91,11 +91,11 @@ pub record Kept (p : Piles) (h : History) (s : State) : Type 0 where
   pub columns : KeptRegister column_form lawful_column_member (λ m. column_measure m.sheet) p.columns kinds.Column h s.columns
   pub walls : KeptRegister wall_form lawful_wall wall_measure p.walls kinds.Wall h s.walls
   -- on each storey, carried and in hand together are the shear on the sheets entered and not withdrawn
-  pub balance : (storey : ℕ) → sum_on (λ w. w.carried) storey s.walls + in_hand storey h ≡ sheets_shear storey (standing kinds.Wall h)
+  pub balance : (storey : ℕ) → sum_on (λ w. w.member.carried) storey s.walls + in_hand storey h ≡ sheets_shear storey (standing kinds.Wall h)
   -- tally answers these three sums
-  pub tallies : (storey : ℕ) (hand : Note) → is_storey storey ≡ true → (step p (tally storey) hand s).answer ≡ Ok (Tallied (record { carried = sum_on (λ w. w.carried) storey s.walls; in_hand = in_hand storey h; sheets = sheets_shear storey (standing kinds.Wall h) }))
+  pub tallies : (storey : ℕ) (hand : Note) → is_storey storey ≡ true → (step p (tally storey) hand s).answer ≡ Ok (Tallied (record { carried = sum_on (λ w. w.member.carried) storey s.walls; in_hand = in_hand storey h; sheets = sheets_shear storey (standing kinds.Wall h) }))
   -- each wall carries at least seven tenths of its sheet's shear
-  pub seven_tenths : Each (λ w. 7 * w.sheet.shear ≤ 10 * w.carried) (filed wall_form s.walls)
+  pub seven_tenths : Each (λ w. 7 * w.member.sheet.shear ≤ 10 * w.member.carried) (filed wall_form s.walls)
   -- shear in hand by the job's note can be put back
   pub goes_back : 1 ≤ s.note.newtons → (step p put_back s.note s).answer ≡ Ok (InHand 0)
 

@@ -6,17 +6,15 @@ use Rattle.members.specs.declared.member.Beam.{Beam}
 use Rattle.members.specs.declared.member.Column.{Column}
 use Rattle.members.specs.declared.member.Wall.{Wall}
 use Rattle.registers.specs.declared.note.Note.{Note}
-use Rattle.registers.specs.declared.rows.BeamRow.{BeamRow}
-use Rattle.registers.specs.declared.rows.ColumnRow.{ColumnRow}
-use Rattle.registers.specs.declared.rows.WallRow.{WallRow}
+use Rattle.registers.specs.declared.rows.Filed.{Filed}
 
 -- a job's number, its note of shear in hand, and the rows of its three registers
 pub record State : Type 0 where
   pub number : ℕ
   pub note : Note
-  pub beams : List BeamRow
-  pub columns : List ColumnRow
-  pub walls : List WallRow
+  pub beams : List (Filed Beam)
+  pub columns : List (Filed Column)
+  pub walls : List (Filed Wall)
 
 -- what each kind's pile means; a pile is a book bare or behind specifications
 pub record Piles : Type 0 where
@@ -69,15 +67,15 @@ abbrev pub are_sized : State → Bool
 are_sized s = is_size (length s.beams) && is_size (length s.columns) && is_size (length s.walls)
 
 -- the state with another register of one kind
-abbrev pub with_beams : State → List BeamRow → State
+abbrev pub with_beams : State → List (Filed Beam) → State
 with_beams s rows = record { number = s.number; note = s.note; beams = rows; columns = s.columns; walls = s.walls }
 
 -- the same for columns
-abbrev pub with_columns : State → List ColumnRow → State
+abbrev pub with_columns : State → List (Filed Column) → State
 with_columns s rows = record { number = s.number; note = s.note; beams = s.beams; columns = rows; walls = s.walls }
 
 -- the same for walls
-abbrev pub with_walls : State → List WallRow → State
+abbrev pub with_walls : State → List (Filed Wall) → State
 with_walls s rows = record { number = s.number; note = s.note; beams = s.beams; columns = s.columns; walls = rows }
 
 -- the state with another note

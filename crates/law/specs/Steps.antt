@@ -13,28 +13,30 @@ use Rattle.sheets.specs.declared.sheet.Sheet.TheVariants as sheets
 use Rattle.messages.specs.Messages.{decoded}
 use Rattle.members.specs.Members.{lawful_beam_member, lawful_column_member, lawful_wall}
 use Rattle.books.specs.declared.answers.Verdict.{Verdict}
+use Rattle.members.specs.declared.member.Beam.{Beam}
+use Rattle.members.specs.declared.member.Column.{Column}
+use Rattle.members.specs.declared.member.Wall.{Wall}
 use Rattle.registers.specs.Registers.{find, row_at, with_row}
-use Rattle.registers.specs.Filings.{◌when◌, decide, Filing, entered, withdrawn, judged, written, written_length}
+use Rattle.faults.specs.Grounds.{◌when◌, decide}
+use Rattle.registers.specs.Filings.{Filing, entered, withdrawn, judged, written, written_length}
 use Rattle.registers.specs.Rows.{beam_row, column_row, wall_row, beam_form, column_form, wall_form}
 use Rattle.registers.specs.declared.note.Note.{Note}
-use Rattle.registers.specs.declared.rows.BeamRow.{BeamRow}
-use Rattle.registers.specs.declared.rows.ColumnRow.{ColumnRow}
-use Rattle.registers.specs.declared.rows.WallRow.{WallRow}
+use Rattle.registers.specs.declared.rows.Filed.{Filed}
 use Rattle.law.specs.States.{State, Piles, Outcome, refused, empty, less, same_note, is_mark, is_storey, is_newtons, are_sized, with_beams, with_columns, with_walls, with_note}
 use Rattle.law.specs.declared.answers.Sums.{Sums}
 
 -- Calls on the register of one kind.
 
 -- what a register's call leaves of the whole state
-abbrev pub on_beams : {A : Type 0} → State → Note → Filing BeamRow A → Outcome A
+abbrev pub on_beams : {A : Type 0} → State → Note → Filing (Filed Beam) A → Outcome A
 on_beams s hand filing = record { answer = filing.answer; state = with_beams s filing.rows; hand = hand }
 
 -- the same for columns
-abbrev pub on_columns : {A : Type 0} → State → Note → Filing ColumnRow A → Outcome A
+abbrev pub on_columns : {A : Type 0} → State → Note → Filing (Filed Column) A → Outcome A
 on_columns s hand filing = record { answer = filing.answer; state = with_columns s filing.rows; hand = hand }
 
 -- the same for walls
-abbrev pub on_walls : {A : Type 0} → State → Note → Filing WallRow A → Outcome A
+abbrev pub on_walls : {A : Type 0} → State → Note → Filing (Filed Wall) A → Outcome A
 on_walls s hand filing = record { answer = filing.answer; state = with_walls s filing.rows; hand = hand }
 
 -- a sheet is filed in the register of its kind, uncertified, a wall carrying its sheet's shear
@@ -99,12 +101,12 @@ abbrev pub wall_place : State → ℕ → Option ℕ
 wall_place s mark = find wall_form mark s.walls
 
 -- the row of a wall; the row of zeros where there is none
-abbrev pub wall_found : State → ℕ → WallRow
+abbrev pub wall_found : State → ℕ → Filed Wall
 wall_found s mark = row_at wall_form (wall_place s mark) s.walls
 
 -- a wall that carries another shear has no certificate
-abbrev pub carrying : WallRow → ℕ → WallRow
-carrying w q = wall_row w.sheet false q
+abbrev pub carrying : Filed Wall → ℕ → Filed Wall
+carrying w q = wall_row w.member.sheet false q
 
 -- what a call that moves shear leaves: the wall carries this shear, and the job and the hand note this
 abbrev pub moved : State → ℕ → ℕ → Note → Outcome ℕ
@@ -115,7 +117,7 @@ moved s mark q note = record {
 }
 
 -- the row of a wall is unlawful
-abbrev pub is_unlawful : WallRow → Bool
+abbrev pub is_unlawful : Filed Wall → Bool
 is_unlawful w = not (lawful_wall (wall_form.member w))
 
 -- the hand is empty or differs from the job's note
@@ -131,10 +133,10 @@ lift_step s hand mark n =
     ∷ (Unknown when not (is_some (wall_place s mark)))
     ∷ (Unlawful when is_unlawful w)
     ∷ (InHand when not (hand.newtons == 0 && s.note.newtons == 0))
-    ∷ (UnderSevenTenths when nat_lt (10 * w.carried) (10 * n + 7 * w.sheet.shear))
+    ∷ (UnderSevenTenths when nat_lt (10 * w.member.carried) (10 * n + 7 * w.member.sheet.shear))
     ∷ [])
     (refused s hand)
-    (moved s mark (w.carried - n) (record { job = s.number; wall = mark; storey = w.sheet.storey; newtons = n }))
+    (moved s mark (w.member.carried - n) (record { job = s.number; wall = mark; storey = w.member.sheet.storey; newtons = n }))
 
 -- place: shear from the hand onto a wall of its storey
 abbrev pub place_step : State → Note → ℕ → ℕ → Outcome ℕ
@@ -145,12 +147,12 @@ place_step s hand mark n =
     ∷ (Unknown when not (is_some (wall_place s mark)))
     ∷ (Unlawful when is_unlawful w)
     ∷ (HandDiffers when differs s hand)
-    ∷ (OtherStorey when not (w.sheet.storey == hand.storey))
+    ∷ (OtherStorey when not (w.member.sheet.storey == hand.storey))
     ∷ (OverHand when nat_lt hand.newtons n)
-    ∷ (OverLoad when nat_lt 10000000 (w.carried + n))
+    ∷ (OverLoad when nat_lt 10000000 (w.member.carried + n))
     ∷ [])
     (refused s hand)
-    (moved s mark (w.carried + n) (less hand n))
+    (moved s mark (w.member.carried + n) (less hand n))
 
 -- put back: the rest from the hand onto the wall that it was lifted from
 abbrev pub put_back_step : State → Note → Outcome ℕ
@@ -161,17 +163,17 @@ put_back_step s hand =
     ∷ (HandDiffers when differs s hand)
     ∷ (Unknown when not (is_some (wall_place s hand.wall)))
     ∷ (Unlawful when is_unlawful w)
-    ∷ (OverLoad when nat_lt 10000000 (w.carried + hand.newtons))
+    ∷ (OverLoad when nat_lt 10000000 (w.member.carried + hand.newtons))
     ∷ [])
     (refused s hand)
-    (moved s hand.wall (w.carried + hand.newtons) empty)
+    (moved s hand.wall (w.member.carried + hand.newtons) empty)
 
 -- Calls that only tell.
 
 -- the sum of a number over the wall rows of a storey, up to the register's end
-abbrev pub sum_on : (WallRow → ℕ) → ℕ → List WallRow → ℕ
+abbrev pub sum_on : (Filed Wall → ℕ) → ℕ → List (Filed Wall) → ℕ
 sum_on number storey [] = 0
-sum_on number storey (w ∷ ws) = cond (w.sheet.heading.mark == 0) 0 (cond (w.sheet.storey == storey) (number w) 0 + sum_on number storey ws)
+sum_on number storey (w ∷ ws) = cond (w.member.sheet.heading.mark == 0) 0 (cond (w.member.sheet.storey == storey) (number w) 0 + sum_on number storey ws)
 
 -- the shear in hand by a note, if it names the storey
 abbrev pub noted_on : ℕ → Note → ℕ
@@ -180,9 +182,9 @@ noted_on storey note = cond (note.storey == storey) note.newtons 0
 -- the three sums of a storey
 abbrev pub sums : State → ℕ → Sums
 sums s storey = record {
-  carried = sum_on (λ w. w.carried) storey s.walls;
+  carried = sum_on (λ w. w.member.carried) storey s.walls;
   in_hand = noted_on storey s.note;
-  sheets = sum_on (λ w. w.sheet.shear) storey s.walls;
+  sheets = sum_on (λ w. w.member.sheet.shear) storey s.walls;
 }
 
 -- tally: I6

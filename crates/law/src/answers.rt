@@ -7,7 +7,7 @@ use std::fmt;
 
 // The three sums of a storey in N: the shear that its walls carry, the shear in hand that came from it, and the shear
 // on its walls' sheets.
-#[derive(Clone, Copy)]
+#[derive(Clone, Copy, Debug, PartialEq, Eq)]
 pub struct Sums {
     pub carried: u64,
     pub in_hand: u64,
@@ -15,7 +15,7 @@ pub struct Sums {
 }
 
 // The answer of a call that was not refused.
-#[derive(Clone, Copy)]
+#[derive(Clone, Copy, Debug, PartialEq, Eq)]
 pub enum Answer {
     // a sheet was entered or withdrawn
     Done,
@@ -37,12 +37,13 @@ impl fmt::Display for Answer {
             Answer::Done => write!(f, "done"),
             Answer::Judged(verdict) => write!(f, "{verdict}"),
             Answer::InHand(newtons) => write!(f, "in hand {newtons}"),
-            Answer::Tallied(sums) => {
-                let carried = sums.carried;
-                let in_hand = sums.in_hand;
-                let sheets = sums.sheets;
-                write!(f, "carried {carried} in hand {in_hand} sheets {sheets}")
-            }
+            Answer::Tallied(
+                Sums {
+                    carried,
+                    in_hand,
+                    sheets,
+                },
+            ) => write!(f, "carried {carried} in hand {in_hand} sheets {sheets}"),
         }
     }
 }

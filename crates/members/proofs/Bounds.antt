@@ -16,7 +16,7 @@ value_bounded (line ∷ table) key =
 
 -- a number that is found in a table is at most the greatest that it is looked up by
 key_bounded : (table : List Entry) (key : ℕ) → is_some (lookup table key) ≡ true → key ≤ greatest (λ line. line.key) table
-key_bounded [] key h = absurd (let z : ◌≡◌ {A = ℕ} 0 1 = cc in omega arith)
+key_bounded [] key h = cc
 key_bounded (line ∷ table) key h =
     cond_both (eqb line.key key) (Some line.value) (lookup table key) (λ x. is_some x ≡ true → key ≤ max line.key (greatest (λ line. line.key) table))
     (λ e s. omega (arith, eqb-true line.key key e))
@@ -40,7 +40,7 @@ bars_bounded b most few = mul-le-mul few (area_bounded b.diameter)
 
 -- a number of a list is at most its greatest
 pub listed_bounded : (ms : List ℕ) (n : ℕ) → listed ms n ≡ true → n ≤ greatest_of ms
-listed_bounded [] n h = absurd (let z : ◌≡◌ {A = ℕ} 0 1 = cc in omega arith)
+listed_bounded [] n h = cc
 listed_bounded (m ∷ ms) n h =
     cond_both (eqb m n) true (listed ms n) (λ t. t ≡ true → n ≤ max m (greatest_of ms))
     (λ e s. omega (arith, eqb-true m n e))

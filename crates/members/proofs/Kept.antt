@@ -12,7 +12,7 @@ Keeps ls ns = (i : ℕ) → i < length ls → within (get_or ls i Zone) (get_or 
 pub keeps : (ls : List Limit) (ns : List ℕ) → admitted ls ns ≡ true → Keeps ls ns
 unfolding admitted
 keeps [] ns h i low = absurd (omega arith)
-keeps (l ∷ ls) [] h i low = absurd (let z : ◌≡◌ {A = ℕ} 0 1 = cc in omega arith)
+keeps (l ∷ ls) [] h i low = cc
 keeps (l ∷ ls) (n ∷ ns) h zero low = (and_parts (within l n) (admitted ls ns) h).0
 keeps (l ∷ ls) (n ∷ ns) h (suc i) low = keeps ls ns (and_parts (within l n) (admitted ls ns) h).1 i (omega arith)
 

@@ -1,6 +1,5 @@
 // The areas of bars, the roots of concrete types, and products that keep within bounds.
 ghost use Rattle.std.specs.Prelude.{◌≡◌, ◌*◌, ◌%◌, ◌^◌, ◌<◌, ◌≤◌};
-ghost use Rattle.tables.specs.Materials.{lookup, bars as bar_table, roots as root_table};
 ghost use Rattle.members.specs.Areas.{area, greatest_area, area_of_bars, root_of, greatest_root};
 
 use sheets::sheet::Bars;
@@ -17,24 +16,14 @@ pub const GREATEST_ZONE: u64 = ZONES[ZONES.len() - 1] as u64;
 // The greatest number that a count can hold.
 const MOST_COUNT: u64 = 0xFFFF_FFFF;
 
-// The area in mm² of one bar of this diameter; 0 where no bar has it.
+// The area in mm² of one bar of this diameter; 0 where no bar has it, as its definition says. Kept beside `root_of`, alike in
+// shape alone: one function over both tables would only hand the table on.
+#[tactic(auto, using(crate::proofs::Bounds::area_bounded), unfolding(crate::specs::Areas::area))]
 pub fn bar_area_of(diameter: u32) -> u64
     ensures area_by_the_table { result ≡ area diameter }
     ensures at_most_the_greatest { result ≤ greatest_area }
 {
-    area_found(diameter, bar_area(diameter))
-}
-
-// The area that the table of bars gave for this diameter, or 0 where it gave none.
-fn area_found(diameter: u32, found: Option<u32>) -> u64
-    requires found_among_the_bars { found ≡ lookup bar_table diameter }
-    ensures area_by_the_table { result ≡ area diameter }
-    ensures at_most_the_greatest { result ≤ greatest_area }
-{
-    match found {
-        Some(area) => u64::from(area),
-        None => 0,
-    }
+    u64::from(bar_area(diameter).unwrap_or(0))
 }
 
 // The area in mm² of a number of bars of one diameter.
@@ -46,23 +35,12 @@ pub fn area_of(bars: Bars) -> u64
 }
 
 // 1,000 times the root of this concrete type, rounded down; 0 where no concrete has it.
+#[tactic(auto, using(crate::proofs::Bounds::root_bounded), unfolding(crate::specs::Areas::root_of))]
 pub fn root_of(concrete: u32) -> u64
     ensures root_by_the_table { result ≡ root_of concrete }
     ensures at_most_the_greatest { result ≤ greatest_root }
 {
-    root_found(concrete, root(concrete))
-}
-
-// The root that the table of concrete types gave, or 0 where it gave none.
-fn root_found(concrete: u32, found: Option<u32>) -> u64
-    requires found_among_the_concretes { found ≡ lookup root_table concrete }
-    ensures root_by_the_table { result ≡ root_of concrete }
-    ensures at_most_the_greatest { result ≤ greatest_root }
-{
-    match found {
-        Some(root) => u64::from(root),
-        None => 0,
-    }
+    u64::from(root(concrete).unwrap_or(0))
 }
 
 // The product of two numbers. Where they keep these bounds, and the product of the bounds fits, so does theirs.

@@ -4,25 +4,24 @@ ghost use Rattle.sheets.specs.Sheets.{lawful_beam, lawful_column, lawful_wall_sh
 ghost use Rattle.members.specs.Members.{beam_measure, column_measure, lawful_beam_member, lawful_column_member, lawful_wall, wall_measure};
 
 use books::book::Member;
-use sheets::limits::{BEAM_LIMITS, COLUMN_LIMITS, WALL_LIMITS};
-use sheets::sheet::{BeamSheet, ColumnSheet, WallSheet};
+use sheets::sheet::{BeamSheet, ColumnSheet, NumberedSheet, WallSheet};
 use tables::codes::Quantity;
-use tables::limits::admits_all;
 
-// A beam, by its sheet.
-#[derive(Clone, Copy)]
+// A beam, by its sheet. Kept beside `Column`, alike in shape alone: what each measures is its own, so that one generic type would
+// have both `impl`s of `Member` again.
+#[derive(Clone, Copy, Default)]
 pub struct Beam {
     pub sheet: BeamSheet,
 }
 
 // A column, by its sheet.
-#[derive(Clone, Copy)]
+#[derive(Clone, Copy, Default)]
 pub struct Column {
     pub sheet: ColumnSheet,
 }
 
 // A wall panel, by its sheet, with the shear in N that it carries now; it begins with its sheet's.
-#[derive(Clone, Copy)]
+#[derive(Clone, Copy, Default)]
 pub struct Wall {
     pub sheet: WallSheet,
     pub carried: u32,
@@ -37,7 +36,7 @@ impl Member for Beam {
     ghost measure = { λ m. beam_measure m.sheet };
 
     fn is_lawful(&self) -> bool {
-        lawful_beam(&self.sheet)
+        BeamSheet::is_lawful(&self.sheet)
     }
 
     fn quantity(&self, quantity: Quantity) -> Option<u32> {
@@ -55,7 +54,7 @@ impl Member for Column {
     ghost measure = { λ m. column_measure m.sheet };
 
     fn is_lawful(&self) -> bool {
-        lawful_column(&self.sheet)
+        ColumnSheet::is_lawful(&self.sheet)
     }
 
     fn quantity(&self, quantity: Quantity) -> Option<u32> {
@@ -75,7 +74,9 @@ impl Member for Wall {
     fn is_lawful(&self) -> bool {
         let carried = u64::from(self.carried);
         let shear = u64::from(self.sheet.shear);
-        lawful_wall_sheet(&self.sheet) && 7 * shear <= 10 * carried && self.carried <= MOST_CARRIED
+        WallSheet::is_lawful(&self.sheet)
+            && 7 * shear <= 10 * carried
+            && self.carried <= MOST_CARRIED
     }
 
     fn quantity(&self, quantity: Quantity) -> Option<u32> {
@@ -85,25 +86,4 @@ impl Member for Wall {
             Quantity::Storey => Some(self.sheet.storey),
         }
     }
-}
-
-// Whether each number of a beam's sheet keeps its limit.
-fn lawful_beam(sheet: &BeamSheet) -> bool
-    ensures decides_lawful { result ≡ lawful_beam sheet.now }
-{
-    admits_all(&BEAM_LIMITS, &sheet.numbers())
-}
-
-// The same for a column.
-fn lawful_column(sheet: &ColumnSheet) -> bool
-    ensures decides_lawful { result ≡ lawful_column sheet.now }
-{
-    admits_all(&COLUMN_LIMITS, &sheet.numbers())
-}
-
-// The same for a wall.
-fn lawful_wall_sheet(sheet: &WallSheet) -> bool
-    ensures decides_lawful { result ≡ lawful_wall_sheet sheet.now }
-{
-    admits_all(&WALL_LIMITS, &sheet.numbers())
 }

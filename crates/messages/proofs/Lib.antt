@@ -1,9 +1,8 @@
 pub mod Steps
-pub mod Cuts
-pub mod Digits
-pub mod Numbers
+pub mod EachKind
 pub mod Written
-pub mod ReadBack
+pub mod Fields
+pub mod Numbers
 pub mod Canonicals
-pub mod Faults
 pub mod Lawful
+pub mod ReadBack

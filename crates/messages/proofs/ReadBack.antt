@@ -1,25 +1,24 @@
 -- A lawful sheet's message reads back as that sheet. Assumes nothing.
-use Rattle.std.proofs.Common.{◌≡◌, ℕ, ◌+◌, ◌*◌, ◌<◌, ◌≤◌, Bool, true, cond, ◌&&◌, eqb, leb, List, [], ◌∷◌, ◌++◌, length, take, drop, IfOk, Ok, Err, Result, sym, refl, ap, ◌∙◌, arith, lit≤}
+use Rattle.std.proofs.Common.{◌≡◌, ℕ, ◌+◌, ◌*◌, ◌<◌, ◌≤◌, Bool, true, cond, ◌&&◌, eqb, leb, List, [], ◌∷◌, ◌++◌, length, take, drop, IfOk, Ok, Err, sym, refl, ap, ◌∙◌, arith, lit≤}
 use Rattle.std.proofs.lemmas.List.{take_at}
-use Rattle.std.proofs.lemmas.Bool.{and_parts, and_from, le-leb, leb-true, eq-eqb, false≢true}
+use Rattle.std.proofs.lemmas.Bool.{cond-true, cond_both, and_parts, and_from, le-leb, leb-true, eq-eqb, false≢true}
 use Rattle.std.proofs.lemmas.Bool.Decides.{nat_tests}
+use Rattle.std.proofs.lemmas.Nat.{from_be_bytes-to_be_bytes_4}
 use Rattle.tables.specs.Codes.{kind_number}
 use Rattle.tables.specs.Limits.{within, admitted}
-use Rattle.sheets.specs.Limits.{beam_limits, column_limits, wall_limits}
-use Rattle.sheets.specs.Sheets.{beam_of, column_of, wall_of, beam_numbers, column_numbers, wall_numbers}
+use Rattle.sheets.specs.Sheets.{kind_on}
 use Rattle.messages.specs.Messages.{four_bytes, field, number_fields, message_of, message, then, raised, number_due, numbers_due, all_due, kind_due, sheet_due, decoded, before, lawful_sheet, ReadsBack, put, put_length}
 use Rattle.tables.specs.declared.codes.Kind.{Kind}
 use Rattle.tables.specs.declared.codes.Kind.TheVariants as kinds
 use Rattle.tables.specs.declared.limits.Limit.{Limit}
 use Rattle.tables.specs.declared.limits.Limit.TheVariants.{Between, Diameter, Zone, Concrete}
 use Rattle.sheets.specs.declared.sheet.Sheet.{Sheet}
-use Rattle.sheets.specs.declared.sheet.Sheet.TheVariants.{Beam, Column, Wall}
-use Rattle.messages.proofs.Digits.{digits_number}
 use Rattle.faults.specs.declared.fault.MessageFault.TheVariants.{Size}
-use Rattle.faults.specs.declared.fault.JobFault.{JobFault}
 use Rattle.faults.specs.declared.fault.JobFault.TheVariants.{Argument}
-use Rattle.messages.proofs.Steps.{cond_ok}
-use Rattle.messages.proofs.Written.{length_message, put_fits}
+use Rattle.messages.specs.Faulty.{limits_of}
+use Rattle.messages.proofs.EachKind.{sheet_of, numbers_of, sheet_due_of, sheet_numbered}
+use Rattle.messages.proofs.Numbers.{admitted_length}
+use Rattle.messages.proofs.Written.{length_message}
 
 -- what a limit admits fits four bytes
 small : Limit → Bool
@@ -44,7 +43,7 @@ number_back : (l : Limit) (tag at n : ℕ) (rest : List ℕ) → n < 4294967296 
 number_back l tag at n rest small law =
     let whole : leb 4 (length (four_bytes n ++ rest)) ≡ true = le-leb 4 (length (four_bytes n ++ rest)) (omega arith) in
     let same : eqb tag tag ≡ true = eq-eqb tag tag refl in
-    let number = digits_number n small in
+    let number = from_be_bytes-to_be_bytes_4 n small in
     simp (whole, same, number, law)
 
 -- all numbers read back
@@ -76,18 +75,37 @@ decoded_back kind ns few =
     ap (λ t. then (raised (cond t (Ok tt) (Err Size))) (λ _. then (kind_due (message_of kind ns)) (λ due. sheet_due due.0 due.1))) (and_from _ _ (le-leb _ _ least) (le-leb _ _ most))
     ∙ ap (λ r. then r (λ due. sheet_due due.0 due.1)) (kind_back kind (number_fields 0 ns))
 
-pub reads_back : (sheet : Sheet) → ReadsBack sheet
+-- what the limits of each kind admit fits four bytes
+small_limits : (kind : Kind) → smalls (limits_of kind) ≡ true
 unfolding small
-reads_back (Beam b) law = decoded_back kinds.Beam (beam_numbers b) (lit≤ tt) ∙ ap (λ r. then r (λ ns. Ok (Beam (beam_of ns)))) (all_back beam_limits (beam_numbers b) refl law)
-reads_back (Column c) law = decoded_back kinds.Column (column_numbers c) (lit≤ tt) ∙ ap (λ r. then r (λ ns. Ok (Column (column_of ns)))) (all_back column_limits (column_numbers c) refl law)
-reads_back (Wall w) law = decoded_back kinds.Wall (wall_numbers w) (lit≤ tt) ∙ ap (λ r. then r (λ ns. Ok (Wall (wall_of ns)))) (all_back wall_limits (wall_numbers w) refl law)
+small_limits kinds.Beam = refl
+small_limits kinds.Column = refl
+small_limits kinds.Wall = refl
 
--- where the buffer had room, what was written reads back
-pub written_back : (sheet : Sheet) (buffer after : List ℕ) (r : Result ℕ JobFault) → r ≡ put_length (message sheet) buffer → after ≡ put (message sheet) buffer → IfOk r (λ size. (lawful_sheet sheet ≡ true → decoded (take size after) ≡ Ok sheet))
-written_back sheet buffer after (Err e) size put = tt
-written_back sheet buffer after (Ok n) size put =
-    λ law.
+-- a kind has so few numbers that their message fits 256 bytes
+few_limits : (kind : Kind) → length (limits_of kind) ≤ 36
+few_limits kinds.Beam = lit≤ tt
+few_limits kinds.Column = lit≤ tt
+few_limits kinds.Wall = lit≤ tt
+
+pub reads_back : (sheet : Sheet) → ReadsBack sheet
+reads_back sheet law =
+    let kind = kind_on sheet in
+    let ns = numbers_of sheet in
+    let is = sheet_numbered sheet in
+    let fit : admitted (limits_of kind) ns ≡ true = sym is.judged ∙ law in
+    let few = few_limits kind in
+    let long = admitted_length (limits_of kind) ns fit in
+    ap decoded is.spelled
+    ∙ decoded_back kind ns (omega arith)
+    ∙ sheet_due_of kind (number_fields 0 ns)
+    ∙ ap (λ r. then r (λ ns. Ok (sheet_of kind ns))) (all_back (limits_of kind) ns (small_limits kind) fit)
+    ∙ ap Ok is.back
+
+-- where the buffer has room, what is written reads back
+pub written_back : (sheet : Sheet) (buffer : List ℕ) → IfOk (put_length (message sheet) buffer) (λ size. (lawful_sheet sheet ≡ true → decoded (take size (put (message sheet) buffer)) ≡ Ok sheet))
+written_back sheet buffer =
     let bytes = message sheet in
-    let room = cond_ok (leb (length bytes) (length buffer)) (length bytes) n Argument (sym size) in
-    let fits = leb-true (length bytes) (length buffer) room.0 in
-    ap (λ xs. decoded (take n xs)) (put ∙ put_fits bytes buffer fits) ∙ ap decoded (take_at bytes (drop (length bytes) buffer) n room.1) ∙ reads_back sheet law
+    cond_both (leb (length bytes) (length buffer)) (Ok (length bytes)) (Err Argument) (λ r. IfOk r (λ size. (lawful_sheet sheet ≡ true → decoded (take size (put bytes buffer)) ≡ Ok sheet)))
+    (λ fits law. ap (λ xs. decoded (take (length bytes) xs)) (cond-true _ _ _ fits) ∙ ap decoded (take_at bytes (drop (length bytes) buffer) (length bytes) refl) ∙ reads_back sheet law)
+    (λ short. tt)

@@ -1,14 +1,15 @@
 // Messages: a run of fields, each a one-byte tag, a two-byte length and that many bytes, high byte first. The first
 // field, tag 1, has one byte, the kind; the sheet's numbers follow in order, four bytes each, tags 16, 17 and so on.
+// Arrays of N numbers are kept: a message is read and written without a heap. That N has tags is a law of `NumberedSheet<N>`; the
+// three functions over arrays below it keep it as a clause, since an array of N numbers is no sheet.
 ghost use Rattle.std.specs.Prelude.{◌≡◌, ◌+◌, ◌*◌, ◌≤◌, true, [], ◌∷◌, ◌++◌, length, take, drop, IfOk, IfErr, Ok, Err, MatchResult};
 ghost use Rattle.sheets.specs.declared.sheet.Sheet.{Sheet};
 ghost use Rattle.tables.specs.Codes.{kind_number};
 ghost use Rattle.messages.specs.Faulty.{FaultAt};
-ghost use Rattle.messages.specs.Messages.{field, four_bytes, cut, body_due, one_byte, four_byte, kind_due, number_due, numbers_due, ended, size_due, sheet_due, decoded, number_fields, message_of, message, put, put_length, lawful_sheet, Canonical, ReadsBack};
+ghost use Rattle.messages.specs.Messages.{field, four_bytes, cut, body_due, kind_due, number_due, numbers_due, ended, size_due, sheet_due, then, all_due, decoded, number_fields, message_of, message, put, put_length, lawful_sheet, Canonical, ReadsBack};
 
 use faults::fault::{JobFault, MessageFault, SheetFault};
-use sheets::limits::{BEAM_LIMITS, COLUMN_LIMITS, WALL_LIMITS};
-use sheets::sheet::{BeamSheet, ColumnSheet, Sheet, WallSheet};
+use sheets::sheet::{BeamSheet, ColumnSheet, NumberedSheet, Sheet, WallSheet};
 use tables::codes::Kind;
 use tables::limits::Limit;
 
@@ -54,36 +55,16 @@ fn due_body<'a>(bytes: &'a [u8], tag: u8, at: usize) -> Result<(&'a [u8], &'a [u
     Ok((field.body, field.rest))
 }
 
-// A number of four bytes, the high byte first.
-fn four_byte_number(body: &[u8], at: usize) -> Result<u32, MessageFault>
-    ensures number_of_four_bytes { result ≡ four_byte at body.now }
-{
-    match body {
-        [a, b, c, d] => Ok(u32::from_be_bytes([*a, *b, *c, *d])),
-        _ => Err(MessageFault::Length(at)),
-    }
-}
-
-// A number of one byte.
-fn one_byte_number(body: &[u8], at: usize) -> Result<u32, MessageFault>
-    ensures number_of_one_byte { result ≡ one_byte at body.now }
-{
-    match body {
-        [a] => Ok(u32::from(*a)),
-        _ => Err(MessageFault::Length(at)),
-    }
-}
-
 // The kind, and the bytes after its field.
 fn read_kind<'a>(bytes: &'a [u8]) -> Result<(Kind, &'a [u8]), SheetFault>
     ensures reads_the_kind_due { MatchResult result (λ due. kind_due bytes.now ≡ Ok (due.0, due.1.now)) (λ e. kind_due bytes.now ≡ Err e) }
 {
     let (body, rest) = due_body(bytes, 1, 0)?;
-    let number = one_byte_number(body, 0)?;
-    match Kind::of_number(number) {
-        Some(kind) => Ok((kind, rest)),
-        None => Err(SheetFault::Value(0)),
-    }
+    let [number] = body else {
+        return Err(MessageFault::Length(0).into());
+    };
+    let kind = Kind::try_from(u32::from(*number)).map_err(|_| SheetFault::Value(0))?;
+    Ok((kind, rest))
 }
 
 // The number that is due, and the bytes after its field.
@@ -96,30 +77,14 @@ fn read_number<'a>(
     ensures reads_the_number_due { MatchResult result (λ due. number_due limit tag at bytes.now ≡ Ok (due.0, due.1.now)) (λ e. number_due limit tag at bytes.now ≡ Err e) }
 {
     let (body, rest) = due_body(bytes, tag, at)?;
-    let number = four_byte_number(body, at)?;
+    let [a, b, c, d] = body else {
+        return Err(MessageFault::Length(at).into());
+    };
+    let number = u32::from_be_bytes([*a, *b, *c, *d]);
     if !limit.admits(number) {
         return Err(SheetFault::Value(at));
     }
     Ok((number, rest))
-}
-
-// The numbers that are due after the kind, in order, and the bytes after their fields.
-fn read_numbers<'a, const N: usize>(
-    bytes: &'a [u8],
-    limits: &[Limit; N],
-) -> Result<([u32; N], &'a [u8]), SheetFault>
-    requires tags_fit_a_byte { length limits.now ≤ 240 }
-    ensures reads_the_numbers_due { MatchResult result (λ due. numbers_due 0 limits.now bytes.now ≡ Ok (due.0, due.1.now)) (λ e. numbers_due 0 limits.now bytes.now ≡ Err e) }
-{
-    let table: &[Limit] = limits;
-    let mut numbers = [0; N];
-    let mut rest = bytes;
-    for i in 0..table.len() {
-        let (number, after) = read_number(rest, 16 + i as u8, 4 + 7 * i, table[i])?;
-        numbers[i] = number;
-        rest = after;
-    }
-    Ok((numbers, rest))
 }
 
 // Bytes left over are a fault at the first of them.
@@ -133,30 +98,43 @@ fn at_end(rest: &[u8], at: usize) -> Result<(), MessageFault>
     }
 }
 
+// The numbers that are due after the kind, in order, and nothing after them.
+fn read_numbers<const N: usize>(bytes: &[u8], limits: &[Limit; N]) -> Result<[u32; N], SheetFault>
+    requires tags_fit_a_byte { N ≤ 240 }
+    ensures reads_all_the_numbers_due { MatchResult result (λ numbers. all_due limits.now bytes.now ≡ Ok numbers) (λ e. all_due limits.now bytes.now ≡ Err e) }
+{
+    let mut numbers = [0; N];
+    let mut rest = bytes;
+    for (i, limit) in limits.iter().enumerate() {
+        let (number, after) = read_number(rest, 16 + i as u8, 4 + 7 * i, *limit)?;
+        numbers[i] = number;
+        rest = after;
+    }
+    at_end(rest, 4 + 7 * N)?;
+    Ok(numbers)
+}
+
 // The sheet of a kind, after the kind's field.
 fn read_sheet(kind: Kind, bytes: &[u8]) -> Result<Sheet, SheetFault>
     ensures reads_the_sheet_of_the_kind { result ≡ sheet_due kind bytes.now }
 {
     match kind {
-        Kind::Beam => {
-            let (numbers, rest) = read_numbers(bytes, &BEAM_LIMITS)?;
-            at_end(rest, 4 + 7 * BEAM_LIMITS.len())?;
-            Ok(Sheet::Beam(BeamSheet::of_numbers(numbers)))
-        }
-        Kind::Column => {
-            let (numbers, rest) = read_numbers(bytes, &COLUMN_LIMITS)?;
-            at_end(rest, 4 + 7 * COLUMN_LIMITS.len())?;
-            Ok(Sheet::Column(ColumnSheet::of_numbers(numbers)))
-        }
-        Kind::Wall => {
-            let (numbers, rest) = read_numbers(bytes, &WALL_LIMITS)?;
-            at_end(rest, 4 + 7 * WALL_LIMITS.len())?;
-            Ok(Sheet::Wall(WallSheet::of_numbers(numbers)))
-        }
+        Kind::Beam => read_all::<BeamSheet, 16>(bytes),
+        Kind::Column => read_all::<ColumnSheet, 11>(bytes),
+        Kind::Wall => read_all::<WallSheet, 20>(bytes),
     }
 }
 
+// The sheet of all the numbers that are due, and nothing after them.
+fn read_all<S: NumberedSheet<N>, const N: usize>(bytes: &[u8]) -> Result<Sheet, SheetFault>
+    ensures reads_all_that_is_due { result ≡ then (all_due S.limits_of bytes.now) (λ ns. Ok (S.sheet_with (S.sheet_of ns))) }
+{
+    let numbers = read_numbers(bytes, S::limits())?;
+    Ok(S::of_numbers(numbers).into_sheet())
+}
+
 // The sheet that a message carries, or the first fault in it.
+#[tactic(auto, using(crate::proofs::Canonicals::accepted, crate::proofs::Canonicals::refused, crate::proofs::ReadBack::reads_back))]
 pub fn decode(message: &[u8]) -> Result<Sheet, SheetFault>
     ensures sheet_or_first_fault { result ≡ decoded message.now }
     ensures accepted_bytes_are_the_sheets_message { IfOk result (λ sheet. Canonical message.now sheet) }
@@ -194,11 +172,11 @@ fn put_at(buffer: &mut [u8], at: usize, bytes: &[u8])
     buffer[at..at + bytes.len()].copy_from_slice(bytes);
 }
 
-// The field of a kind.
+// The field of a kind. Kept beside `number_field`: one text for both would need the length of its array computed.
 fn kind_field(kind: Kind) -> [u8; 4]
     ensures field_of_the_kind { result ≡ field 1 (kind_number kind ∷ []) }
 {
-    [1, 0, 1, kind.number() as u8]
+    [1, 0, 1, u32::from(kind) as u8]
 }
 
 // The field of number i of a sheet.
@@ -219,35 +197,33 @@ fn message_length(numbers: usize) -> usize
 }
 
 // Writes the fields of a sheet's numbers, in order, after the four bytes of the kind's field.
+#[tactic(auto, using(crate::proofs::Written::filled_none, crate::proofs::Written::filled_more, crate::proofs::Written::filled_all))]
 fn write_fields<const N: usize>(numbers: &[u32; N], buffer: &mut [u8])
-    requires tags_fit_a_byte { length numbers.now ≤ 240 }
+    requires tags_fit_a_byte { N ≤ 240 }
     requires fields_fit { 4 + 7 * length numbers.now ≤ length buffer.old }
     ensures fields_between_what_was_there { buffer.new ≡ (take 4 buffer.old ++ number_fields 0 numbers.now) ++ drop (4 + 7 * length numbers.now) buffer.old }
 {
-    let row: &[u32] = numbers;
-    for i in 0..row.len() {
-        let bytes = number_field(i, row[i]);
-        put_at(buffer, 4 + 7 * i, &bytes);
+    for (i, number) in numbers.iter().enumerate() {
+        put_at(buffer, 4 + 7 * i, &number_field(i, *number));
     }
 }
 
 // Writes the message of a kind and its numbers to the front of the buffer.
+#[tactic(auto, using(crate::proofs::Written::length_fields))]
 fn write_message<const N: usize>(
     kind: Kind,
     numbers: &[u32; N],
     buffer: &mut [u8],
 ) -> Result<usize, JobFault>
-    requires tags_fit_a_byte { length numbers.now ≤ 240 }
+    requires tags_fit_a_byte { N ≤ 240 }
     ensures length_or_too_short { result ≡ put_length (message_of kind numbers.now) buffer.old }
     ensures message_then_the_rest_untouched { buffer.new ≡ put (message_of kind numbers.now) buffer.old }
 {
-    let row: &[u32] = numbers;
-    let length = message_length(row.len());
+    let length = message_length(N);
     if buffer.len() < length {
         return Err(JobFault::Argument);
     }
-    let bytes = kind_field(kind);
-    put_at(buffer, 0, &bytes);
+    put_at(buffer, 0, &kind_field(kind));
     write_fields(numbers, buffer);
     Ok(length)
 }
@@ -267,8 +243,20 @@ fn write_sheet(sheet: &Sheet, buffer: &mut [u8]) -> Result<usize, JobFault>
     ensures message_then_the_rest_untouched { buffer.new ≡ put (message sheet.now) buffer.old }
 {
     match sheet {
-        Sheet::Beam(beam) => write_message(Kind::Beam, &beam.numbers(), buffer),
-        Sheet::Column(column) => write_message(Kind::Column, &column.numbers(), buffer),
-        Sheet::Wall(wall) => write_message(Kind::Wall, &wall.numbers(), buffer),
+        Sheet::Beam(beam) => write_all(Kind::Beam, beam, buffer),
+        Sheet::Column(column) => write_all(Kind::Column, column, buffer),
+        Sheet::Wall(wall) => write_all(Kind::Wall, wall, buffer),
     }
+}
+
+// The message of a kind and all the numbers of a sheet.
+fn write_all<S: NumberedSheet<N>, const N: usize>(
+    kind: Kind,
+    sheet: &S,
+    buffer: &mut [u8],
+) -> Result<usize, JobFault>
+    ensures length_or_too_short { result ≡ put_length (message_of kind (S.numbers_of sheet.now)) buffer.old }
+    ensures message_then_the_rest_untouched { buffer.new ≡ put (message_of kind (S.numbers_of sheet.now)) buffer.old }
+{
+    write_message(kind, &sheet.numbers(), buffer)
 }

@@ -3,6 +3,7 @@
 use Rattle.std.specs.Prelude.{ℕ, Bool, cond, not, List, [], ◌∷◌, length, is_some, Ok, Err, Option, Result, nat_le, slice_set}
 use Rattle.faults.specs.declared.fault.JobFault.{JobFault}
 use Rattle.faults.specs.declared.fault.JobFault.TheVariants.{Full, Filed, Unknown, Unlawful, ShearMoved, NotTaken}
+use Rattle.faults.specs.Grounds.{◌when◌, decide}
 use Rattle.messages.specs.Messages.{message, put, put_length}
 use Rattle.books.specs.Meanings.{Meaning}
 use Rattle.books.specs.Verdicts.{lowest}
@@ -11,21 +12,6 @@ use Rattle.books.specs.declared.answers.Verdict.TheVariants.{Certificate, Breaks
 use Rattle.registers.specs.Forms.{Form}
 use Rattle.registers.specs.Registers.{ending, find, row_at, with_row, without}
 use Rattle.registers.specs.declared.note.Note.{Note}
-
--- a ground of refusal, and whether it holds
-pub record Ground : Type 0 where
-  pub fault : JobFault
-  pub holds : Bool
-
--- the fault, if the test holds
-infix 20 ◌when◌
-abbrev pub ◌when◌ : JobFault → Bool → Ground
-fault when test = record { fault = fault; holds = test }
-
--- the first ground that holds refuses; where none holds, it is done
-abbrev pub decide : {A : Type 0} → List Ground → (JobFault → A) → A → A
-decide [] refuse done = done
-decide (g ∷ gs) refuse done = cond g.holds (refuse g.fault) (decide gs refuse done)
 
 -- what a register's call answers, and the rows after it
 pub record Filing (R A : Type 0) : Type 0 where

@@ -20,9 +20,7 @@ pub fn withdraw_row<M: Member, R: Row<M>>(
     ensures taken_out_or_refused { result ≡ (withdrawn R.Row.form note.now mark register.old).answer }
     ensures later_rows_move_up { register.new ≡ (withdrawn R.Row.form note.now mark register.old).rows }
 {
-    let Some(at) = find(register, mark) else {
-        return Err(JobFault::Unknown);
-    };
+    let at = find(register, mark).ok_or(JobFault::Unknown)?;
     let row = register[at];
     if row.is_moved(note) {
         return Err(JobFault::ShearMoved);
@@ -41,9 +39,7 @@ pub fn judge_row<M: Member + Copy, R: Row<M>, B: Book<M>>(
     ensures verdict_of_the_book_or_refused { result ≡ (judged R.Row.form M.Member.lawful (B.Book.meaning book.now) mark register.old).answer }
     ensures certificate_on_the_row { register.new ≡ (judged R.Row.form M.Member.lawful (B.Book.meaning book.now) mark register.old).rows }
 {
-    let Some(at) = find(register, mark) else {
-        return Err(JobFault::Unknown);
-    };
+    let at = find(register, mark).ok_or(JobFault::Unknown)?;
     let row = register[at];
     let found = verdict(book, &row.member())?;
     if let Verdict::Certificate = found {
@@ -62,9 +58,7 @@ pub fn write_row<M: Member + Copy, R: Row<M>>(
     ensures length_or_refused { result ≡ written_length R.Row.form M.Member.lawful mark register.now buffer.old }
     ensures message_then_the_rest_untouched { buffer.new ≡ written R.Row.form M.Member.lawful mark register.now buffer.old }
 {
-    let Some(at) = find(register, mark) else {
-        return Err(JobFault::Unknown);
-    };
+    let at = find(register, mark).ok_or(JobFault::Unknown)?;
     let row = register[at];
     if !row.member().is_lawful() {
         return Err(JobFault::Unlawful);

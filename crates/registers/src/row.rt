@@ -6,7 +6,8 @@ use crate::note::Note;
 use books::book::Member;
 use sheets::sheet::Sheet;
 
-// A row of a register: a sheet with a certificate mark, that stands for a member.
+// A row of a register: a sheet with a certificate mark, that stands for a member. Kept as a trait, though one type meets it: the
+// handling of registers is bound by what a row tells, and by no fields.
 pub trait Row<M: Member>: Copy {
     // what the row tells of itself
     ghost form: { Form Self M };
@@ -15,7 +16,7 @@ pub trait Row<M: Member>: Copy {
     fn mark(&self) -> u32
         ensures mark_on_the_sheet { result ≡ form.mark self.now };
 
-    // The row of zeros.
+    // The row of zeros. A free row is this and no None: the rules of the job fix it so.
     fn blank() -> Self
         ensures row_of_zeros { result ≡ form.blank };
 

@@ -1,137 +1,138 @@
-// The rows of the three kinds: a sheet, a certificate mark and, for walls, the carried shear.
-ghost use Rattle.registers.specs.Rows.{beam_form, column_form, wall_form};
+// The rows of the three kinds: a member that is filed, with its certificate mark.
+ghost use Rattle.std.specs.Prelude.{◌≡◌, Bool};
+ghost use Rattle.std.proofs.Common.{rules};
+ghost use Rattle.sheets.specs.declared.sheet.Sheet.{Sheet};
+ghost use Rattle.registers.specs.Rows.{filed_form, beam_sheet, column_sheet, wall_sheet, no_beam, no_column, no_wall, unmoved, wall_shear_moved};
+ghost use Rattle.registers.specs.declared.note.Note.{Note};
 
 use crate::note::Note;
 use crate::row::Row;
+use books::book::Member;
 use members::member::{Beam, Column, Wall};
-use sheets::sheet::{BeamSheet, ColumnSheet, Sheet, WallSheet};
+use sheets::sheet::Sheet;
+
+// A member that registers file, by its sheet.
+pub trait Fileable: Member + Copy + Default {
+    // the sheet of the member
+    ghost sheet_of: { Self → Sheet };
+
+    // the member on a free row
+    ghost blank: { Self };
+
+    // whether the member's shear is not its sheet's own, or shear in hand by the note came from it
+    ghost moved: { Note → Self → Bool };
+
+    // The sheet of the member.
+    fn sheet(&self) -> Sheet
+        ensures sheet_of_the_member { result ≡ sheet_of self.now };
+
+    // Whether the member's shear is not its sheet's own, or shear in hand by this note came from it.
+    fn is_moved(&self, note: &Note) -> bool
+        ensures tells_whether_shear_moved { result ≡ moved note.now self.now };
+
+    // the member on a free row is the default
+    ghost free_by_default: { (m : Self) → Self.is_default m → m ≡ blank };
+}
+
+// A member that is filed, with its certificate mark: kept as a `bool`, since the member stands on the row with and without it.
+#[derive(Clone, Copy, Default)]
+pub struct Filed<M> {
+    pub member: M,
+    pub certified: bool,
+}
 
 // A beam that is filed.
-#[derive(Clone, Copy)]
-pub struct BeamRow {
-    pub sheet: BeamSheet,
-    pub certified: bool,
-}
+pub type BeamRow = Filed<Beam>;
 
 // A column that is filed.
-#[derive(Clone, Copy)]
-pub struct ColumnRow {
-    pub sheet: ColumnSheet,
-    pub certified: bool,
-}
+pub type ColumnRow = Filed<Column>;
 
 // A wall that is filed, with the shear in N that it carries now.
-#[derive(Clone, Copy)]
-pub struct WallRow {
-    pub sheet: WallSheet,
-    pub certified: bool,
-    pub carried: u32,
-}
+pub type WallRow = Filed<Wall>;
 
-impl Row<Beam> for BeamRow {
-    ghost form = { beam_form };
+impl<M: Fileable> Row<M> for Filed<M> {
+    ghost form = { filed_form M.sheet_of M.blank M.moved };
 
     fn mark(&self) -> u32 {
-        self.sheet.heading.mark
+        self.member.sheet().mark()
     }
 
-    fn blank() -> BeamRow {
-        BeamRow {
-            sheet: BeamSheet::of_numbers([0; 16]),
-            certified: false,
+    fn blank() -> Filed<M> {
+        Filed::default()
+    }
+
+    fn sheet(&self) -> Sheet {
+        self.member.sheet()
+    }
+
+    fn member(&self) -> M {
+        self.member
+    }
+
+    fn certify(&self) -> Filed<M> {
+        Filed {
+            certified: true,
+            ..*self
         }
     }
+
+    fn is_moved(&self, note: &Note) -> bool {
+        self.member.is_moved(note)
+    }
+}
+
+// Kept beside that of `Column`: the trait cannot answer for `is_moved` by itself, since what is moved is each kind's own.
+impl Fileable for Beam {
+    ghost sheet_of = { beam_sheet };
+
+    ghost blank = { no_beam };
+
+    ghost moved = { unmoved };
 
     fn sheet(&self) -> Sheet {
         Sheet::Beam(self.sheet)
     }
 
-    fn member(&self) -> Beam {
-        Beam { sheet: self.sheet }
-    }
-
-    fn certify(&self) -> BeamRow {
-        BeamRow {
-            sheet: self.sheet,
-            certified: true,
-        }
-    }
-
     fn is_moved(&self, _note: &Note) -> bool {
         false
     }
+
+    ghost free_by_default = { Prim.search rules };
 }
 
-impl Row<Column> for ColumnRow {
-    ghost form = { column_form };
+impl Fileable for Column {
+    ghost sheet_of = { column_sheet };
 
-    fn mark(&self) -> u32 {
-        self.sheet.heading.mark
-    }
+    ghost blank = { no_column };
 
-    fn blank() -> ColumnRow {
-        ColumnRow {
-            sheet: ColumnSheet::of_numbers([0; 11]),
-            certified: false,
-        }
-    }
+    ghost moved = { unmoved };
 
     fn sheet(&self) -> Sheet {
         Sheet::Column(self.sheet)
     }
 
-    fn member(&self) -> Column {
-        Column { sheet: self.sheet }
-    }
-
-    fn certify(&self) -> ColumnRow {
-        ColumnRow {
-            sheet: self.sheet,
-            certified: true,
-        }
-    }
-
     fn is_moved(&self, _note: &Note) -> bool {
         false
     }
+
+    ghost free_by_default = { Prim.search rules };
 }
 
-impl Row<Wall> for WallRow {
-    ghost form = { wall_form };
+impl Fileable for Wall {
+    ghost sheet_of = { wall_sheet };
 
-    fn mark(&self) -> u32 {
-        self.sheet.heading.mark
-    }
+    ghost blank = { no_wall };
 
-    fn blank() -> WallRow {
-        WallRow {
-            sheet: WallSheet::of_numbers([0; 20]),
-            certified: false,
-            carried: 0,
-        }
-    }
+    ghost moved = { wall_shear_moved };
 
     fn sheet(&self) -> Sheet {
         Sheet::Wall(self.sheet)
-    }
-
-    fn member(&self) -> Wall {
-        Wall {
-            sheet: self.sheet,
-            carried: self.carried,
-        }
-    }
-
-    fn certify(&self) -> WallRow {
-        WallRow {
-            sheet: self.sheet,
-            certified: true,
-            carried: self.carried,
-        }
     }
 
     fn is_moved(&self, note: &Note) -> bool {
         let in_hand = note.newtons != 0 && note.wall == self.sheet.heading.mark;
         self.carried != self.sheet.shear || in_hand
     }
+
+    ghost free_by_default = { Prim.search rules };
 }

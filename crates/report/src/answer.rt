@@ -2,9 +2,7 @@
 ghost use Rattle.std.specs.Prelude.{◌≡◌};
 ghost use Rattle.messages.specs.Messages.{decoded};
 ghost use Rattle.books.specs.Verdicts.{verdict_of, Says};
-ghost use Rattle.members.specs.Members.{lawful_beam_member, lawful_column_member, lawful_wall};
-ghost use Rattle.beams.specs.Articles.{beam_meaning};
-ghost use Rattle.columns.specs.Articles.{column_meaning};
+ghost use Rattle.members.specs.Members.{lawful_wall};
 ghost use Rattle.walls.specs.Articles.{wall_meaning};
 ghost use Rattle.report.specs.Answers.{SheetTold, Told, answered, sheet_verdict};
 
@@ -16,7 +14,7 @@ use columns::articles::ColumnBook;
 use faults::fault::JobFault;
 use members::member::{Beam, Column, Wall};
 use messages::message::decode;
-use sheets::sheet::{BeamSheet, ColumnSheet, Sheet, WallSheet};
+use sheets::sheet::{Sheet, WallSheet};
 use walls::articles::WallBook;
 
 // The line that answers a message: the verdict of the book of its kind, or the refusal.
@@ -37,32 +35,17 @@ fn answer_to(message: &[u8]) -> Result<Verdict, JobFault>
     verdict_on(sheet)
 }
 
-// The verdict of the book of its kind on the member of this sheet; a wall carries its sheet's shear.
+// The verdict of the book of its kind on the member of this sheet; a wall carries its sheet's shear. Kept as a match of three
+// arms: each book and each member has a type of its own.
 fn verdict_on(sheet: Sheet) -> Result<Verdict, JobFault>
     ensures verdict_of_its_book { result ≡ sheet_verdict sheet }
     ensures says_what_the_sheet_earns { SheetTold sheet result }
 {
     match sheet {
-        Sheet::Beam(beam) => beam_verdict(beam),
-        Sheet::Column(column) => column_verdict(column),
-        Sheet::Wall(wall) => wall_verdict(wall),
+        Sheet::Beam(sheet) => verdict(&BeamBook, &Beam { sheet }),
+        Sheet::Column(sheet) => verdict(&ColumnBook, &Column { sheet }),
+        Sheet::Wall(sheet) => wall_verdict(sheet),
     }
-}
-
-// The verdict of the beam book.
-fn beam_verdict(sheet: BeamSheet) -> Result<Verdict, JobFault>
-    ensures verdict_of_the_beam_book { result ≡ verdict_of lawful_beam_member beam_meaning (record { sheet = sheet }) }
-    ensures certificate_or_lowest_broken { Says lawful_beam_member beam_meaning (record { sheet = sheet }) result }
-{
-    verdict(&BeamBook, &Beam { sheet })
-}
-
-// The verdict of the column book.
-fn column_verdict(sheet: ColumnSheet) -> Result<Verdict, JobFault>
-    ensures verdict_of_the_column_book { result ≡ verdict_of lawful_column_member column_meaning (record { sheet = sheet }) }
-    ensures certificate_or_lowest_broken { Says lawful_column_member column_meaning (record { sheet = sheet }) result }
-{
-    verdict(&ColumnBook, &Column { sheet })
 }
 
 // The verdict of the wall book on a wall that carries its sheet's shear.

@@ -19,10 +19,7 @@ impl fmt::Display for Line {
     fn fmt<W: fmt::Write>(&self, f: &mut fmt::Formatter<W>) -> fmt::Result {
         match self.answer {
             Ok(verdict) => write!(f, "{verdict}"),
-            Err(fault) => {
-                let refusal = fault.refusal();
-                write!(f, "refused {refusal}")
-            }
+            Err(fault) => write!(f, "{fault}"),
         }
     }
 }

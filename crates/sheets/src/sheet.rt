@@ -1,12 +1,21 @@
 // The three sheets, by name, and the same numbers in the order of the message.
-ghost use Rattle.std.specs.Prelude.{◌≡◌};
+ghost use Rattle.std.specs.Prelude.{◌≡◌, ◌≤◌, ℕ, List, length, refl};
+ghost use Rattle.std.proofs.Common.{rules};
+ghost use Rattle.sheets.specs.Listed.{listed_out};
+ghost use Rattle.tables.specs.Limits.{admitted};
+ghost use Rattle.tables.specs.declared.limits.Limit.{Limit};
+ghost use Rattle.sheets.specs.declared.sheet.Sheet.{Sheet};
+ghost use Rattle.sheets.specs.declared.sheet.Sheet.TheVariants as sheets;
+ghost use Rattle.sheets.specs.Limits.{beam_limits, column_limits, wall_limits};
 ghost use Rattle.sheets.specs.Sheets.{beam_of, column_of, wall_of, beam_numbers, column_numbers, wall_numbers, kind_on, mark_on};
 
+use crate::limits::{BEAM_LIMITS, COLUMN_LIMITS, WALL_LIMITS};
 use tables::codes::Kind;
+use tables::limits::{Limit, admits_all};
 
 // What every sheet begins with: the member's mark, the zone factor in hundredths, the concrete type and the
 // concrete's design strength in tenths of N/mm².
-#[derive(Clone, Copy)]
+#[derive(Clone, Copy, Default)]
 pub struct Heading {
     pub mark: u32,
     pub zone: u32,
@@ -14,22 +23,22 @@ pub struct Heading {
     pub strength: u32,
 }
 
-// A number of bars of one diameter.
-#[derive(Clone, Copy)]
+// A number of bars of one diameter. Kept beside `Spaced`, alike in shape alone: a count is no spacing.
+#[derive(Clone, Copy, Default)]
 pub struct Bars {
     pub count: u32,
     pub diameter: u32,
 }
 
 // Bars of one diameter at one spacing, as stirrups and the bars of a mesh.
-#[derive(Clone, Copy)]
+#[derive(Clone, Copy, Default)]
 pub struct Spaced {
     pub diameter: u32,
     pub spacing: u32,
 }
 
 // A beam. Lengths in mm, shear in N, the shear area in mm².
-#[derive(Clone, Copy)]
+#[derive(Clone, Copy, Default)]
 pub struct BeamSheet {
     pub heading: Heading,
     pub width: u32,
@@ -44,7 +53,7 @@ pub struct BeamSheet {
 }
 
 // A column.
-#[derive(Clone, Copy)]
+#[derive(Clone, Copy, Default)]
 pub struct ColumnSheet {
     pub heading: Heading,
     pub width: u32,
@@ -56,11 +65,12 @@ pub struct ColumnSheet {
 }
 
 // A wall panel of one storey.
-#[derive(Clone, Copy)]
+#[derive(Clone, Copy, Default)]
 pub struct WallSheet {
     pub heading: Heading,
     pub storey: u32,
     pub storeys: u32,
+    // kept as a number: a sheet may hold any, and `is_lawful` tells whether it stands for an analysis
     pub analysis: u32,
     pub thickness: u32,
     pub length: u32,
@@ -73,6 +83,54 @@ pub struct WallSheet {
     pub vertical: Spaced,
     pub vertical_count: u32,
     pub horizontal: Spaced,
+}
+
+// A sheet as a run of N numbers, in the order of its message, each with its limit. Kept as functions of a trait and no `From`:
+// its laws tie both directions to one another.
+pub trait NumberedSheet<const N: usize>: Copy {
+    // the sheet of a list of numbers
+    ghost sheet_of: { List ℕ → Self };
+
+    // the numbers of a sheet
+    ghost numbers_of: { Self → List ℕ };
+
+    // the sheet of any kind that it is
+    ghost sheet_with: { Self → Sheet };
+
+    // the limit of each number
+    ghost limits_of: { List Limit };
+
+    // The limits of the numbers, in their order.
+    fn limits() -> &'static [Limit; N]
+        ensures limits_in_order { result.now ≡ limits_of };
+
+    // The sheet of these numbers.
+    fn of_numbers(numbers: [u32; N]) -> Self
+        ensures takes_the_numbers_in_order { result ≡ sheet_of numbers.entry };
+
+    // The numbers of the sheet.
+    fn numbers(&self) -> [u32; N]
+        ensures gives_the_numbers_in_order { result ≡ numbers_of self.now };
+
+    // The sheet, as the sheet of a member of any kind.
+    fn into_sheet(self) -> Sheet
+        ensures same_sheet_of_its_kind { result ≡ sheet_with self };
+
+    // Whether each number of the sheet keeps its limit.
+    final fn is_lawful(&self) -> bool
+        ensures decides_lawful { result ≡ admitted limits_of (numbers_of self.now) }
+    {
+        admits_all(Self::limits(), &self.numbers())
+    }
+
+    // each number has a tag of one byte
+    ghost as_many_as_there_are_tags: { N ≤ 240 };
+
+    // the numbers of a sheet give it back
+    ghost numbers_give_the_sheet_back: { (sheet : Self) → sheet_of (numbers_of sheet) ≡ sheet };
+
+    // a sheet gives back the numbers that it is of
+    ghost sheet_gives_the_numbers_back: { (numbers : List ℕ) → length numbers ≡ N → numbers_of (sheet_of numbers) ≡ numbers };
 }
 
 // The sheet of one member of any kind.
@@ -107,9 +165,26 @@ impl Sheet {
     }
 }
 
-impl BeamSheet {
-    // The sheet of these numbers, in the order of the message.
-    pub fn of_numbers(numbers: [u32; 16]) -> BeamSheet
+impl NumberedSheet<16> for BeamSheet {
+    ghost sheet_of = { beam_of };
+
+    ghost numbers_of = { beam_numbers };
+
+    ghost sheet_with = { sheets.Beam };
+
+    ghost limits_of = { beam_limits };
+
+    ghost as_many_as_there_are_tags = { Prim.search rules };
+
+    ghost numbers_give_the_sheet_back = { λ sheet. refl };
+
+    ghost sheet_gives_the_numbers_back = { listed_out 16 };
+
+    fn limits() -> &'static [Limit; 16] {
+        &BEAM_LIMITS
+    }
+
+    fn of_numbers(numbers: [u32; 16]) -> BeamSheet
         ensures takes_the_numbers_in_order { result ≡ beam_of numbers }
     {
         let [
@@ -160,10 +235,11 @@ impl BeamSheet {
         }
     }
 
-    // The numbers of the sheet, in the order of the message.
-    pub fn numbers(&self) -> [u32; 16]
-        ensures gives_the_numbers_in_order { result ≡ beam_numbers self.now }
-    {
+    fn into_sheet(self) -> Sheet {
+        Sheet::Beam(self)
+    }
+
+    fn numbers(&self) -> [u32; 16] {
         [
             self.heading.mark,
             self.heading.zone,
@@ -185,9 +261,26 @@ impl BeamSheet {
     }
 }
 
-impl ColumnSheet {
-    // The sheet of these numbers, in the order of the message.
-    pub fn of_numbers(numbers: [u32; 11]) -> ColumnSheet
+impl NumberedSheet<11> for ColumnSheet {
+    ghost sheet_of = { column_of };
+
+    ghost numbers_of = { column_numbers };
+
+    ghost sheet_with = { sheets.Column };
+
+    ghost limits_of = { column_limits };
+
+    ghost as_many_as_there_are_tags = { Prim.search rules };
+
+    ghost numbers_give_the_sheet_back = { λ sheet. refl };
+
+    ghost sheet_gives_the_numbers_back = { listed_out 11 };
+
+    fn limits() -> &'static [Limit; 11] {
+        &COLUMN_LIMITS
+    }
+
+    fn of_numbers(numbers: [u32; 11]) -> ColumnSheet
         ensures takes_the_numbers_in_order { result ≡ column_of numbers }
     {
         let [
@@ -219,10 +312,11 @@ impl ColumnSheet {
         }
     }
 
-    // The numbers of the sheet, in the order of the message.
-    pub fn numbers(&self) -> [u32; 11]
-        ensures gives_the_numbers_in_order { result ≡ column_numbers self.now }
-    {
+    fn into_sheet(self) -> Sheet {
+        Sheet::Column(self)
+    }
+
+    fn numbers(&self) -> [u32; 11] {
         [
             self.heading.mark,
             self.heading.zone,
@@ -239,9 +333,26 @@ impl ColumnSheet {
     }
 }
 
-impl WallSheet {
-    // The sheet of these numbers, in the order of the message.
-    pub fn of_numbers(numbers: [u32; 20]) -> WallSheet
+impl NumberedSheet<20> for WallSheet {
+    ghost sheet_of = { wall_of };
+
+    ghost numbers_of = { wall_numbers };
+
+    ghost sheet_with = { sheets.Wall };
+
+    ghost limits_of = { wall_limits };
+
+    ghost as_many_as_there_are_tags = { Prim.search rules };
+
+    ghost numbers_give_the_sheet_back = { λ sheet. refl };
+
+    ghost sheet_gives_the_numbers_back = { listed_out 20 };
+
+    fn limits() -> &'static [Limit; 20] {
+        &WALL_LIMITS
+    }
+
+    fn of_numbers(numbers: [u32; 20]) -> WallSheet
         ensures takes_the_numbers_in_order { result ≡ wall_of numbers }
     {
         let [
@@ -296,10 +407,11 @@ impl WallSheet {
         }
     }
 
-    // The numbers of the sheet, in the order of the message.
-    pub fn numbers(&self) -> [u32; 20]
-        ensures gives_the_numbers_in_order { result ≡ wall_numbers self.now }
-    {
+    fn into_sheet(self) -> Sheet {
+        Sheet::Wall(self)
+    }
+
+    fn numbers(&self) -> [u32; 20] {
         [
             self.heading.mark,
             self.heading.zone,

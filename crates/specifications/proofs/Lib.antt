@@ -1,4 +1,3 @@
 mod Rows
-mod Placed
-mod Grounds
+mod Numbered
 pub mod Stays

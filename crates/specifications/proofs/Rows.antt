@@ -1,24 +1,18 @@
--- What stands in the first rows of a table. Assumes nothing.
-use Rattle.std.proofs.Common.{◌≡◌, ℕ, zero, suc, ◌<◌, ◌≤◌, List, [], ◌∷◌, length, get_or, take, Some, None, Option, refl, le_of_suc-le-suc, not-suc-le-zero}
-use Rattle.specifications.specs.Places.{at_place}
+-- One more row is counted, where a row is written that is not past it. Assumes nothing.
+use Rattle.std.proofs.Common.{◌≡◌, ℕ, ◌+◌, ◌-◌, ◌<◌, ◌≤◌, List, drop, set, replicate, sym, ap, ◌∙◌, arith, length-set}
+use Rattle.std.proofs.lemmas.List.{drop-set-lt, drop-drop, drop-replicate}
+use Rattle.specifications.specs.Rows.{blank, Counted}
+use Rattle.specifications.specs.declared.rule.Rule.{Rule}
 
-module _ {A : Type 0} where
-  -- a row that is counted
-  pub counted : (table : List A) (count place : ℕ) (d : A) → count ≤ length table → place < count → Some (get_or table place d) ≡ at_place (take count table) place
-  counted table zero place d fits within = absurd (not-suc-le-zero within)
-  counted [] (suc count) place d fits within = absurd (not-suc-le-zero fits)
-  counted (row ∷ rows) (suc count) zero d fits within = refl
-  counted (row ∷ rows) (suc count) (suc place) d fits within = counted rows count place d (le_of_suc-le-suc fits) (le_of_suc-le-suc within)
-
-  -- past the last row that is counted
-  pub uncounted : (table : List A) (count place : ℕ) → count ≤ place → ◌≡◌ {A = Option A} None (at_place (take count table) place)
-  uncounted table zero place past = refl
-  uncounted [] (suc count) place past = refl
-  uncounted (row ∷ rows) (suc count) zero past = absurd (not-suc-le-zero past)
-  uncounted (row ∷ rows) (suc count) (suc place) past = uncounted rows count place (le_of_suc-le-suc past)
-
-  -- past the last of the list
-  pub past_the_end : (list : List A) (place : ℕ) → length list ≤ place → at_place list place ≡ None
-  past_the_end [] place past = refl
-  past_the_end (first ∷ rest) zero past = absurd (not-suc-le-zero past)
-  past_the_end (first ∷ rest) (suc place) past = past_the_end rest place (le_of_suc-le-suc past)
+pub counted_more : (table : List Rule) (count place : ℕ) (rule : Rule) → Counted table count → count < 8 → place ≤ count → Counted (set table place rule) (count + 1)
+counted_more table count place rule counted room within = record {
+  eight_rows = length-set table place rule ∙ counted.eight_rows;
+  at_most_eight = omega arith;
+  blank_after =
+      let one : 8 - count - 1 ≡ 8 - (count + 1) = omega arith in
+      drop-set-lt (count + 1) table place rule (omega arith)
+      ∙ sym (drop-drop 1 count table)
+      ∙ ap (drop 1) counted.blank_after
+      ∙ drop-replicate 1 (8 - count) blank
+      ∙ ap (λ n. replicate n blank) one;
+}

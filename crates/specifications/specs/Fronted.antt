@@ -1,11 +1,12 @@
 -- A specification before a book: what its rules find, what it means as a book, and what adding a rule does. Assumes nothing.
-use Rattle.std.specs.Prelude.{◌≡◌, ℕ, ◌+◌, Bool, true, false, cond, List, [], ◌∷◌, ◌++◌, map, length, take, Some, None, Ok, Err, Option, Result, nat_le, nat_lt}
+use Rattle.std.specs.Prelude.{◌≡◌, ℕ, ◌+◌, Bool, true, false, cond, List, [], ◌∷◌, ◌++◌, map, length, is_none, Some, None, Ok, Err, Option, Result, nat_le, nat_lt}
 use Rattle.tables.specs.Codes.{quantity_of, sense_of}
 use Rattle.tables.specs.declared.codes.Quantity.{Quantity}
 use Rattle.tables.specs.declared.codes.Sense.{Sense}
 use Rattle.tables.specs.declared.codes.Sense.TheVariants.{AtLeast, AtMost}
 use Rattle.faults.specs.declared.fault.JobFault.{JobFault}
 use Rattle.faults.specs.declared.fault.JobFault.TheVariants.{Argument, Full}
+use Rattle.faults.specs.Grounds.{◌when◌, unless}
 use Rattle.books.specs.Findings.{at_least, at_most}
 use Rattle.books.specs.Meanings.{Meaning}
 use Rattle.books.specs.Numbered.{numbered_from}
@@ -15,7 +16,6 @@ use Rattle.books.specs.declared.answers.Finding.{Finding}
 use Rattle.books.specs.declared.answers.Finding.TheVariants.{NotApplicable}
 use Rattle.books.specs.declared.answers.Verdict.TheVariants.{Breaks}
 use Rattle.specifications.specs.declared.rule.Rule.{Rule}
-use Rattle.specifications.specs.declared.rules.Rules.{Rules}
 
 -- the quantity against the limit, by the sense
 abbrev pub compared : Sense → ℕ → ℕ → Finding
@@ -56,34 +56,20 @@ StaysNamed {M} lawful measure book =
     → (hung measure stack book).takes m ≡ true
     → verdict_of lawful (hung measure stack book) m ≡ Ok (Breaks n s)
 
--- the rules that were added: the first rows of the table, as many as are counted
-abbrev pub rules_of : Rules → List Rule
-rules_of rules = take rules.count rules.table
-
--- whether there is none
-abbrev pub absent : {A : Type 0} → Option A → Bool
-absent None = true
-absent (Some x) = false
-
 -- a rule of these parts, where the numbers have given them
 abbrev pub rule_made : Option Quantity → Option Sense → ℕ → List Rule
 rule_made None sense limit = []
 rule_made (Some quantity) None limit = []
 rule_made (Some quantity) (Some sense) limit = record { quantity = quantity; sense = sense; limit = limit } ∷ []
 
--- refused on the first ground that holds; where none does, this is done
-abbrev pub unless : {A : Type 0} → List (Bool × JobFault) → A → Result A JobFault
-unless [] done = Ok done
-unless (first ∷ grounds) done = cond first.0 (Err first.1) (unless grounds done)
-
 -- adding a rule: the grounds of refusal in their order, then the rules with the new one after the last
 abbrev pub adding : ℕ → ℕ → ℕ → List Rule → Result (List Rule) JobFault
 adding quantity sense limit rules =
     unless
-    ((absent (quantity_of quantity), Argument)
-    ∷ (absent (sense_of sense), Argument)
-    ∷ (nat_lt 100000 limit, Argument)
-    ∷ (nat_le 8 (length rules), Full)
+    ((Argument when is_none (quantity_of quantity))
+    ∷ (Argument when is_none (sense_of sense))
+    ∷ (Argument when nat_lt 100000 limit)
+    ∷ (Full when nat_le 8 (length rules))
     ∷ [])
     (rules ++ rule_made (quantity_of quantity) (sense_of sense) limit)
 

@@ -1,3 +1,3 @@
-pub mod Places
+pub mod Rows
 pub mod Fronted
 pub mod Steps

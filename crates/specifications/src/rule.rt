@@ -19,16 +19,13 @@ pub struct Rule {
 }
 
 impl Rule {
-    // The rule that the numbers stand for; a number outside its limits is refused (I6).
+    // The rule that the numbers stand for; a number outside its limits is refused (I6). Kept as a function: three numbers are no
+    // value to convert from, and a tuple of them would say less.
     pub(crate) fn of_numbers(quantity: u32, sense: u32, limit: u32) -> Result<Rule, JobFault>
         ensures rule_of_the_numbers { result ≡ rule_of quantity sense limit }
     {
-        let Some(quantity) = Quantity::of_number(quantity) else {
-            return Err(JobFault::Argument);
-        };
-        let Some(sense) = Sense::of_number(sense) else {
-            return Err(JobFault::Argument);
-        };
+        let quantity = Quantity::try_from(quantity)?;
+        let sense = Sense::try_from(sense)?;
         if limit > GREATEST_LIMIT {
             return Err(JobFault::Argument);
         }

@@ -1,5 +1,6 @@
 -- The number of each case of the closed lists, and the case of each number. Assumes nothing.
-use Rattle.std.specs.Prelude.{ℕ, cond, List, [], ◌∷◌, Some, None, Option, ◌==◌}
+use Rattle.std.specs.Prelude.{ℕ, cond, List, [], ◌∷◌, Some, None, Option, Ok, Err, Result, ◌==◌}
+use Rattle.tables.specs.declared.codes.Unlisted.{Unlisted}
 use Rattle.tables.specs.declared.codes.Kind.{Kind}
 use Rattle.tables.specs.declared.codes.Kind.TheVariants.{Beam, Column, Wall}
 use Rattle.tables.specs.declared.codes.Analysis.{Analysis}
@@ -51,3 +52,8 @@ sense_number AtMost = 2
 -- the sense of a number, or none
 abbrev pub sense_of : ℕ → Option Sense
 sense_of = numbered sense_number (AtLeast ∷ AtMost ∷ [])
+
+-- the case found, or the error that the number is not listed
+abbrev pub or_unlisted : {A : Type 0} → Option A → Result A Unlisted
+or_unlisted (Some case) = Ok case
+or_unlisted None = Err (record {})

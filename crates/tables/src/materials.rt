@@ -63,12 +63,10 @@ pub const ZONES: [u32; 4] = [100, 105, 115, 125];
 fn looked_up(table: &[Entry], key: u32) -> Option<u32>
     ensures gives_the_first_line { result ≡ lookup table.now key }
 {
-    for line in table {
-        if line.key == key {
-            return Some(line.value);
-        }
-    }
-    None
+    table
+        .iter()
+        .find(|line| line.key == key)
+        .map(|line| line.value)
 }
 
 // The area of one bar of this diameter, or none where no bar has it.
@@ -86,21 +84,9 @@ pub fn root(concrete: u32) -> Option<u32>
     looked_up(&ROOTS, concrete)
 }
 
-// Whether the number stands in the list.
-fn is_listed(list: &[u32], number: u32) -> bool
-    ensures tells_the_list { result ≡ listed list.now number }
-{
-    for one in list {
-        if *one == number {
-            return true;
-        }
-    }
-    false
-}
-
 // Whether a zone has this factor.
 pub(crate) fn is_zone(factor: u32) -> bool
     ensures tells_the_zones { result ≡ listed zones factor }
 {
-    is_listed(&ZONES, factor)
+    ZONES.contains(&factor)
 }

@@ -3,22 +3,20 @@
 // not written back as the message that it came from gets a line of its own, which no stored output has.
 #![tactic(auto)]
 
-ghost use Rattle.std.specs.Prelude.{◌≡◌, true};
-
 use beams::articles::BeamBook;
-use books::answers::Finding;
-use books::book::{Book, Member};
+use books::answers::{Finding, Sides};
+use books::book::{Book, Lawful, Member};
 use columns::articles::ColumnBook;
 use members::member::{Beam, Column, Wall};
 use messages::message::{decode, encode};
 use report::answer::reply;
 use sheets::sheet::Sheet;
 use std::alloc::{AllocError, Global};
-use std::io;
 use std::io::{BufRead, BufReader};
+use std::{fmt, io};
 use walls::articles::WallBook;
 
-// The value of a hexadecimal digit, or none.
+// The value of a hexadecimal digit, or none. Kept: `to_digit` would take capital letters too.
 fn digit(c: u8) -> Option<u8> {
     match c {
         b'0'..=b'9' => Some(c - b'0'),
@@ -27,7 +25,8 @@ fn digit(c: u8) -> Option<u8> {
     }
 }
 
-// The bytes that the text spells, two digits each, up to the first pair that is none.
+// The bytes that the text spells, two digits each, up to the first pair that is none. Kept: the crate `hex` refuses a text
+// that spells no bytes, where this program reads what comes before.
 fn bytes_of(heap: Global, text: &[u8]) -> Result<Vec<u8>, AllocError> {
     let mut bytes = Vec::new(heap);
     for pair in text.chunks_exact(2) {
@@ -39,31 +38,34 @@ fn bytes_of(heap: Global, text: &[u8]) -> Result<Vec<u8>, AllocError> {
     Ok(bytes)
 }
 
-// One finding: `h`, `b` or `n` with both sides.
-fn print_finding(rt: &impl Print, finding: Finding) -> io::Result<()> {
-    let sides = finding.sides();
-    let left = sides.left;
-    let right = sides.right;
-    match finding {
-        Finding::Held(_) => print!(rt; "h:{left}:{right}"),
-        Finding::Broken(_) => print!(rt; "b:{left}:{right}"),
-        Finding::NotApplicable => print!(rt; "n:{left}:{right}"),
+// A finding in the figures: `h`, `b` or `n` with both sides.
+#[derive(Clone, Copy)]
+struct Figure(Finding);
+
+impl fmt::Display for Figure {
+    fn fmt<W: fmt::Write>(&self, f: &mut fmt::Formatter<W>) -> fmt::Result {
+        let letter = match self.0 {
+            Finding::Held(_) => 'h',
+            Finding::Broken(_) => 'b',
+            Finding::NotApplicable => 'n',
+        };
+        let Sides { left, right } = self.0.sides();
+        write!(f, "{letter}:{left}:{right}")
     }
 }
 
 // What each article from 0 to one past the count finds, on one line.
 fn print_findings<M: Member, B: Book<M>>(rt: &impl Print, book: &B, member: &M) -> io::Result<()> {
-    if member.is_lawful() {
-        print_finding(rt, book.finding(member, 0))?;
-        for article in 1..book.count() + 2 {
-            print!(rt; " ")?;
-            print_finding(rt, book.finding(member, article))?;
+    if let Some(lawful) = Lawful::of(member) {
+        print!(rt; "{}", Figure(book.finding(&lawful, 0)))?;
+        for article in 1..=book.count() + 1 {
+            print!(rt; " {}", Figure(book.finding(&lawful, article)))?;
         }
     }
     println!(rt; "")
 }
 
-// Whether the sheet's message, written into a buffer that is longer, is these bytes.
+// Whether the sheet's message, written into a buffer that is longer, is these bytes. Kept as a buffer: it is lent to writing.
 fn is_message_of(sheet: &Sheet, bytes: &[u8]) -> bool {
     let mut buffer = [0xaau8; 300];
     match encode(sheet, &mut buffer) {

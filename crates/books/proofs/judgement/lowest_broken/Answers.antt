@@ -1,3 +1,4 @@
+-- Each step of the search keeps what the articles from here on give.
 use Rattle.std.proofs.Common.{◌+◌, ◌<◌, ◌≤◌, sym, ◌∙◌, arith}
 use Rattle.books.proofs.Lowest.{lowest_breaks, lowest_goes, lowest_end}
 use Rattle.books.proofs.judgement.lowest_broken.Goals as goal

@@ -1,3 +1,4 @@
+-- What the search keeps: the articles from here on give the verdict.
 use Rattle.std.proofs.Common.{◌≡◌, ◌+◌, ◌-◌}
 use Rattle.books.specs.Verdicts.{lowest}
 use Rattle.books.proofs.judgement.lowest_broken.Given as goal

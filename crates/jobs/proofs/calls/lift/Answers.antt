@@ -1,3 +1,4 @@
+-- Lift does what its definition says, so it keeps the law, and a hand that agrees with the job's note stays so.
 use Rattle.law.specs.Histories as acts
 use Rattle.std.proofs.Common.{ap}
 use Rattle.law.specs.Laws.{renamed}

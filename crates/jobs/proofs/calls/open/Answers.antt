@@ -1,3 +1,4 @@
+-- A job that was opened is reached by the empty history, and every run from an opening keeps the law.
 use Rattle.law.proofs.Runs.{every_run}
 use Rattle.jobs.proofs.Opened.{opened_lawfully}
 use Rattle.jobs.proofs.calls.open.Goals as goal

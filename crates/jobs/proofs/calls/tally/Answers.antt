@@ -1,3 +1,4 @@
+-- Tally answers what its definition says and leaves the state, so it keeps the law, whatever the hand.
 use Rattle.std.proofs.Common.{sym, ap}
 use Rattle.law.specs.Laws.{renamed}
 use Rattle.law.specs.declared.answers.Answer.TheVariants.{Tallied}

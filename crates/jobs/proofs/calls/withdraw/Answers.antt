@@ -1,3 +1,4 @@
+-- Withdraw does what its definition says, so it keeps the law, whatever the hand.
 use Rattle.std.proofs.Common.{ap}
 use Rattle.law.specs.Laws.{renamed}
 use Rattle.law.specs.declared.answers.Answer.TheVariants.{Done}

@@ -1,3 +1,4 @@
+-- Write does what its definition says of the job whose registers they are.
 use Rattle.jobs.proofs.calls.write.Goals as goal
 
 pub returns : goal.returns

@@ -1,24 +1,17 @@
-use Rattle.std.proofs.Common.{◌≡◌, length, sym, ◌∙◌, arith}
-use Rattle.std.proofs.lemmas.List.{at_drop_all}
-use Rattle.registers.specs.Registers.{ending_from}
-use Rattle.registers.proofs.Places.{ending_here, ending_later}
+-- The first free row, or past the last row, is where the register ends.
+use Rattle.std.proofs.Common.{length, ap, ◌∙◌, arith, rules, tests}
+use Rattle.std.specs.List.{position_from}
+use Rattle.std.specs.Option.{unwrap_or}
+use Rattle.std.proofs.lemmas.Iterator.{YieldsList-from_slice}
+use Rattle.std.proofs.lemmas.Iterator.Search.{position_from_yields_List}
+use Rattle.std.proofs.lemmas.Iterator.Adapters.{position_from-zero}
+use Rattle.registers.proofs.Places.{ending_found}
+use Rattle.registers.specs.Registers.{free}
 use Rattle.registers.proofs.register.ending.Goals as goal
 
-pub returns-then-mark-eq0 : goal.returns-then-mark-eq0
-returns-then-mark-eq0 g c = record {
-  place_where_it_ends = sym (c.loop-i.invariant ∙ ending_here g.R.Row.form _ _ _ _ c.loop-i-test.true c.index-register-i.is c.mark.ensures.mark_on_the_sheet c.if-mark-eq0.true);
-  at_most_its_length = omega arith;
-}
-
-pub loop-i-preserved : goal.loop-i-preserved
-loop-i-preserved g c =
-    c.loop-i.invariant
-    ∙ ending_later g.R.Row.form _ _ _ _ c.loop-i-test.true c.index-register-i.is c.mark.ensures.mark_on_the_sheet c.if-mark-eq0.false
-
-pub returns : goal.returns
-returns g c =
-    let end : c.loop-i.i ≡ length c.args.register.now = omega arith in
-    record {
-      place_where_it_ends = sym (c.loop-i.invariant ∙ at_drop_all (ending_from g.R.Row.form c.loop-i.i) _ _ c.loop-i-test.false ∙ end);
-      at_most_its_length = omega arith;
-    }
+pub returns-clause-place_where_it_ends : goal.returns-clause-place_where_it_ends
+returns-clause-place_where_it_ends g c =
+    let form = g.R.Row.form in
+    let rows = c.args.register.now in
+    let at = position_from_yields_List (free form) _ _ _ c.position.ensures.ran (YieldsList-from_slice rows cc) (λ x b q k. search (rules, tests)) in
+    c.unwrap_or.ensures ∙ ap (λ o. unwrap_or o (length rows)) (at ∙ position_from-zero (free form) rows) ∙ (ap (unwrap_or (position_from (free form) 0 rows)) (omega arith) ∙ ending_found form 0 rows)

@@ -1,27 +1,13 @@
-use Rattle.std.proofs.Common.{sym, ap, ◌∙◌, subst}
-use Rattle.report.specs.Answers.{SheetTold, sheet_verdict}
+-- The verdict of the book of its kind is the verdict on the sheet.
+use Rattle.std.proofs.Common.{sym, ap, ◌∙◌}
+use Rattle.report.specs.Answers.{sheet_verdict}
 use Rattle.report.proofs.answer.verdict_on.Goals as goal
 
-pub returns-in-Beam : goal.returns-in-Beam
-returns-in-Beam c =
-    let is = sym c.in-Beam.is in
-    record {
-      verdict_of_its_book = c.beam_verdict.ensures.verdict_of_the_beam_book ∙ ap sheet_verdict is;
-      says_what_the_sheet_earns = subst (λ s. SheetTold s c.beam_verdict.result) is c.beam_verdict.ensures.certificate_or_lowest_broken;
-    }
+pub returns-in-Beam-clause-verdict_of_its_book : goal.returns-in-Beam-clause-verdict_of_its_book
+returns-in-Beam-clause-verdict_of_its_book c = c.verdict.ensures.verdict_by_the_meaning ∙ ap sheet_verdict (sym c.in-Beam.is)
 
-pub returns-in-Column : goal.returns-in-Column
-returns-in-Column c =
-    let is = sym c.in-Column.is in
-    record {
-      verdict_of_its_book = c.column_verdict.ensures.verdict_of_the_column_book ∙ ap sheet_verdict is;
-      says_what_the_sheet_earns = subst (λ s. SheetTold s c.column_verdict.result) is c.column_verdict.ensures.certificate_or_lowest_broken;
-    }
+pub returns-in-Column-clause-verdict_of_its_book : goal.returns-in-Column-clause-verdict_of_its_book
+returns-in-Column-clause-verdict_of_its_book c = c.verdict-in-Column.ensures.verdict_by_the_meaning ∙ ap sheet_verdict (sym c.in-Column.is)
 
-pub returns-in-Wall : goal.returns-in-Wall
-returns-in-Wall c =
-    let is = sym c.in-Wall.is in
-    record {
-      verdict_of_its_book = c.wall_verdict.ensures.verdict_of_the_wall_book ∙ ap sheet_verdict is;
-      says_what_the_sheet_earns = subst (λ s. SheetTold s c.wall_verdict.result) is c.wall_verdict.ensures.certificate_or_lowest_broken;
-    }
+pub returns-in-Wall-clause-verdict_of_its_book : goal.returns-in-Wall-clause-verdict_of_its_book
+returns-in-Wall-clause-verdict_of_its_book c = c.wall_verdict.ensures.verdict_of_the_wall_book ∙ ap sheet_verdict (sym c.in-Wall.is)

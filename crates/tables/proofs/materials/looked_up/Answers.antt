@@ -1,19 +1,13 @@
-use Rattle.std.proofs.Common.{sym, ◌∙◌}
-use Rattle.std.proofs.lemmas.List.{at_drop_more, at_drop_all}
-use Rattle.std.proofs.lemmas.Bool.{cond-true, cond-false, eq-eqb, ne_eqb}
-use Rattle.tables.specs.Materials.{lookup, line}
+-- The line found is the first with the key.
+use Rattle.std.proofs.Common.{rules, tests, ◌≡◌, sym, ap, ◌∙◌, ◌==◌, option_map, find}
+use Rattle.std.proofs.lemmas.Iterator.{YieldsList-from_slice}
+use Rattle.std.proofs.lemmas.Iterator.Search.{find_from_yields_List}
+use Rattle.tables.proofs.Lookup.{lookup_finds}
 use Rattle.tables.proofs.materials.looked_up.Goals as goal
 
-pub returns-then-line-key : goal.returns-then-line-key
-returns-then-line-key c = record {
-  gives_the_first_line = sym (c.loop-line.invariant ∙ at_drop_more (λ t. lookup t c.args.key) c.args.table.now c.loop-line.line-index (line 0 0) c.loop-line-test.true ∙ cond-true _ _ _ (eq-eqb _ _ c.if-line-key.true));
-}
-
-pub loop-line-preserved : goal.loop-line-preserved
-loop-line-preserved c =
-    c.loop-line.invariant ∙ at_drop_more (λ t. lookup t c.args.key) c.args.table.now c.loop-line.line-index (line 0 0) c.loop-line-test.true ∙ cond-false _ _ _ (ne_eqb _ _ c.if-line-key.false)
-
 pub returns : goal.returns
-returns c = record {
-  gives_the_first_line = sym (c.loop-line.invariant ∙ at_drop_all (λ t. lookup t c.args.key) c.args.table.now c.loop-line.line-index c.loop-line-test.false);
-}
+returns c =
+    let found : option_map (λ r. r.now) c.find.result ≡ find (λ l. l.key == c.args.key) c.args.table.now =
+    find_from_yields_List (λ l. l.key == c.args.key) _ _ c.find.result c.find.ensures.ran (YieldsList-from_slice c.args.table.now cc) (λ x b q k. search (rules, tests)) in
+    let mapped : c.map.result ≡ option_map (λ l. l.value) (option_map (λ r. r.now) c.find.result) = search rules in
+    record { gives_the_first_line = mapped ∙ ap (option_map (λ l. l.value)) found ∙ sym (lookup_finds c.args.table.now c.args.key) }
