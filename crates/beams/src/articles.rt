@@ -164,7 +164,8 @@ const MOST_SECTION_STRENGTH: u64 = MOST_WIDTH_STRENGTH * MOST_SIDE;
 
 const MOST_ZONE_ROOT: u64 = GREATEST_ZONE * GREATEST_ROOT;
 
-// The sizes of a lawful beam.
+// The sizes of a lawful beam. Kept as a function that each article calls: a definition could not make sizes with their bounds as
+// an invariant, since it has no proof of them.
 #[tactic(auto, using(crate::proofs::Sizes::beam_bounded))]
 fn sizes(beam: &Lawful<'_, Beam>) -> BeamSizes
     ensures sizes_of_the_beam { result ≡ beam_sizes beam.now.sheet }

@@ -129,7 +129,8 @@ const MOST_SIDE: u64 = 2_000;
 
 const MOST_SCALED_ZONE: u64 = 6 * GREATEST_ZONE;
 
-// The sizes of a lawful column.
+// The sizes of a lawful column. Kept as a function that each article calls: a definition could not make sizes with their bounds as
+// an invariant, since it has no proof of them.
 #[tactic(auto, using(crate::proofs::Sizes::column_bounded))]
 fn sizes(column: &Lawful<'_, Column>) -> ColumnSizes
     ensures sizes_of_the_column { result ≡ column_sizes column.now.sheet }

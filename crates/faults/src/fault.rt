@@ -205,7 +205,7 @@ impl From<SheetFault> for JobFault {
 impl From<Unlisted> for JobFault {
     ghost from_gives = { λ _ r. r ≡ Argument };
 
-    fn from(_number: Unlisted) -> Self {
+    fn from(_unlisted: Unlisted) -> Self {
         Self::Argument
     }
 }

@@ -1,9 +1,10 @@
 // The calls of a job. None asks anything of its caller: what it will not do it refuses, and then nothing has changed.
 //
 // Kept as they are: a kind is a number, since a call refuses one that stands for no kind (I6); job, registers and hand are
-// passed side by side, since the registers belong to the caller, who hands them to each call anew; lift and place are two
-// calls, alike in shape alone; that the registers stay lent and a hand stays in step is said of each call, since it relates
-// what was before it to what is after, which no invariant can.
+// passed side by side, since the registers belong to the caller, who hands them to each call anew, and a kind with its mark or
+// a wall with its newtons are the arguments that a call's rules name; lift and place are two calls, alike in shape alone; the
+// answer, the state and the hand, that the registers stay lent and a hand stays in step are said of each call, by its own
+// definition, since they relate what was before it to what is after, which no invariant can.
 ghost use Rattle.std.specs.Prelude.{◌≡◌, [], IfOk};
 ghost use Rattle.registers.specs.declared.note.Note.{Note};
 ghost use Rattle.law.specs.States.{Piles as Meanings};

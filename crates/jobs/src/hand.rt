@@ -4,7 +4,7 @@ ghost use Rattle.law.specs.States.{empty};
 
 use registers::note::Note;
 
-// The note of no shear.
+// The note of no shear. Kept as a literal: a constant calls no `default`, and all four numbers can be read here.
 pub(crate) const NO_SHEAR: Note = Note {
     job: 0,
     wall: 0,

@@ -190,7 +190,7 @@ fn wall_to_move(
     lawful_wall_at(registers.walls, wall)
 }
 
-// A lawful wall's place and row.
+// A lawful wall's place and row. Kept beside the two tests before writing a row, which needs no place.
 fn lawful_wall_at(walls: &[WallRow], mark: u32) -> Result<(usize, WallRow), JobFault>
     ensures wall_or_first_ground { result ≡ lawful_wall_at walls.now mark }
     ensures place_of_a_wall { IfOk result (λ found. found.0 < length walls.now) }

@@ -30,8 +30,8 @@ pub(crate) fn tally_storey(
     })
 }
 
-// The shear that the walls of a storey carry, and the shear on their sheets, in N. Kept as a loop over the rows that are
-// lent: it sums two numbers at once, and ends where the register does.
+// The shear that the walls of a storey carry, and the shear on their sheets, in N: a loop over the rows that are lent, since it
+// sums two numbers at once and ends where the register does.
 fn sums_on(walls: &[WallRow], storey: u32) -> (u64, u64)
     requires at_most_256_rows { length walls.now ≤ 256 }
     ensures carried_by_the_walls { result.0 ≡ sum_on (λ w. w.member.carried) storey walls.now }

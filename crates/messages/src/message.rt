@@ -1,7 +1,8 @@
 // Messages: a run of fields, each a one-byte tag, a two-byte length and that many bytes, high byte first. The first
 // field, tag 1, has one byte, the kind; the sheet's numbers follow in order, four bytes each, tags 16, 17 and so on.
-// Arrays of N numbers are kept: a message is read and written without a heap. That N has tags is a law of `NumberedSheet<N>`; the
-// three functions over arrays below it keep it as a clause, since an array of N numbers is no sheet.
+// Arrays of N numbers are kept: a message is read and written without a heap. That N is at most 240, so that each number has a
+// tag of one byte, is a law of `NumberedSheet<N>`; `read_numbers`, `write_fields` and `write_message`, which take arrays and no
+// sheet, keep it as a clause.
 ghost use Rattle.std.specs.Prelude.{◌≡◌, ◌+◌, ◌*◌, ◌≤◌, true, [], ◌∷◌, ◌++◌, length, take, drop, IfOk, IfErr, Ok, Err, MatchResult};
 ghost use Rattle.sheets.specs.declared.sheet.Sheet.{Sheet};
 ghost use Rattle.tables.specs.Codes.{kind_number};

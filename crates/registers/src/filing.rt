@@ -49,7 +49,8 @@ pub fn judge_row<M: Member + Copy, R: Row<M>, B: Book<M>>(
 }
 
 // Puts at the buffer's front the message of the sheet that is on the row with this mark, and answers its length: refused
-// where there is no such row (S3), then where it is unlawful (S4), then where the buffer is too short (I6).
+// where there is no such row (S3), then where it is unlawful (S4), then where the buffer is too short (I6). The two tests are
+// kept beside those before moving shear: a function for both would answer a place that this one drops.
 pub fn write_row<M: Member + Copy, R: Row<M>>(
     register: &[R],
     mark: u32,

@@ -82,7 +82,7 @@ fn move_up<M: Member, R: Row<M>>(register: &mut [R], at: usize)
     register[last] = R::blank();
 }
 
-// Makes every row the row of zeros. Kept as a loop: `fill` asks that a clone of a row is that row, of which a bound says nothing.
+// Makes every row the row of zeros. A loop and no `fill`, which asks that a clone of a row is that row, of which a bound says nothing.
 pub fn clear<M: Member, R: Row<M>>(register: &mut [R])
     ensures every_row_is_zeros { register.new ≡ replicate (length register.old) R.Row.form.blank }
 {

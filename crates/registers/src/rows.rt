@@ -54,7 +54,7 @@ impl<M: Fileable> Row<M> for Filed<M> {
     ghost form = { filed_form M.sheet_of M.blank M.moved };
 
     fn mark(&self) -> u32 {
-        self.member.sheet().mark()
+        self.sheet().mark()
     }
 
     fn blank() -> Filed<M> {
@@ -81,7 +81,7 @@ impl<M: Fileable> Row<M> for Filed<M> {
     }
 }
 
-// Kept beside that of `Column`: the trait cannot answer for `is_moved` by itself, since what is moved is each kind's own.
+// Kept beside that of `Column`: with a body `false` in the trait the proof does not close, since `moved` is abstract there.
 impl Fileable for Beam {
     ghost sheet_of = { beam_sheet };
 
@@ -111,7 +111,7 @@ impl Fileable for Column {
         Sheet::Column(self.sheet)
     }
 
-    fn is_moved(&self, _note: &Note) -> bool {
+    fn is_moved(&self, _noted: &Note) -> bool {
         false
     }
 

@@ -133,7 +133,7 @@ pub trait NumberedSheet<const N: usize>: Copy {
     ghost sheet_gives_the_numbers_back: { (numbers : List ℕ) → length numbers ≡ N → numbers_of (sheet_of numbers) ≡ numbers };
 }
 
-// The sheet of one member of any kind.
+// The sheet of one member of any kind. Its matches are kept: each arm has a type of its own.
 #[derive(Clone, Copy)]
 pub enum Sheet {
     Beam(BeamSheet),

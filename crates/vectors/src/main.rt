@@ -74,7 +74,7 @@ fn is_message_of(sheet: &Sheet, bytes: &[u8]) -> bool {
     }
 }
 
-// The lines for one message.
+// The lines for one message. Kept as a match of three arms: each book and each member has a type of its own.
 fn print_answer(rt: &impl Print, message: &[u8]) -> io::Result<()> {
     let line = reply(message);
     println!(rt; "{line}")?;

@@ -235,7 +235,8 @@ pub struct WallSizes {
     pub shear_area: u64,
 }
 
-// The sizes of a lawful wall.
+// The sizes of a lawful wall. Kept as a function that each article calls: a definition could not make sizes with their bounds as
+// an invariant, since it has no proof of them.
 #[tactic(auto, using(crate::proofs::Sizes::wall_bounded))]
 fn sizes(wall: &Lawful<'_, Wall>) -> WallSizes
     ensures sizes_of_the_wall { result ≡ wall_sizes wall.now }
