@@ -81,7 +81,7 @@ mod tests {
         place: 0,
     };
 
-    // A ground of refusal from the input, at place 0.
+    // A ground of refusal from the input, at place 0. Kept as numbers: the format fixes them.
     fn ground(number: u32, layer: u32) -> Refusal {
         Refusal {
             origin: Origin::Input,
