@@ -2,7 +2,7 @@
 // regulation by its number.
 ghost use Rattle.std.specs.Prelude.{true, ◌≡◌, ◌*◌, ◌≤◌};
 ghost use Rattle.members.specs.Areas.{greatest_root, greatest_zone};
-ghost use Rattle.beams.specs.Articles.{beam_sizes, BeamBounds, least_smaller_area, most_greater_area, most_area_for_concrete, least_bottom_area, least_stirrup_area, most_shear, face_share, least_face_area, section_strength, borne_shear, beam_meaning};
+ghost use Rattle.beams.specs.Articles.{beam_sizes, BeamBounds, least_smaller_area, most_greater_area, most_area_for_concrete, least_bottom_area, least_stirrup_area, most_shear, face_share, least_face_area, beam_meaning};
 
 use books::answers::Finding;
 use books::book::{Book, Lawful};
@@ -50,7 +50,10 @@ fn least_smaller_area(beam: &Lawful<'_, Beam>) -> Finding
     ensures smaller_area_against_the_concrete { result ≡ least_smaller_area beam.now.sheet }
 {
     let sizes = sizes(beam);
-    Finding::at_least(42_000 * sizes.top.min(sizes.bottom), section_strength(beam))
+    Finding::at_least(
+        42_000 * sizes.top.min(sizes.bottom),
+        section_strength(sizes),
+    )
 }
 
 // 5.6.1.3.2: the greater area is at most a fortieth of the section.
@@ -72,7 +75,7 @@ fn most_area_for_concrete(beam: &Lawful<'_, Beam>) -> Finding
         product::<MOST_SCALED_AREA, MOST_AREA>(42_000 * greater, greater),
         product::<MOST_JOINT_AREA, MOST_SECTION_STRENGTH>(
             3 * greater + 2 * smaller,
-            section_strength(beam),
+            section_strength(sizes),
         ),
     )
 }
@@ -101,7 +104,7 @@ fn most_shear(beam: &Lawful<'_, Beam>) -> Finding
     ensures shear_against_what_is_borne { result ≡ most_shear beam.now.sheet }
 {
     let sizes = sizes(beam);
-    Finding::at_most(13_500_000 * sizes.shear, 95 * borne_shear(beam))
+    Finding::at_most(13_500_000 * sizes.shear, 95 * borne_shear(sizes))
 }
 
 // 5.6.1.5: under high shear the faces have a share of the greater area, by zone.
@@ -110,7 +113,7 @@ fn least_face_area(beam: &Lawful<'_, Beam>) -> Finding
 {
     let sizes = sizes(beam);
     let share = face_share(beam.member.sheet.heading.concrete);
-    if 13_500_000 * sizes.shear > share * borne_shear(beam) {
+    if 13_500_000 * sizes.shear > share * borne_shear(sizes) {
         Finding::at_least(
             product::<MOST_AREA, GREATEST_ZONE>(sizes.face, sizes.zone),
             15 * sizes.top.max(sizes.bottom),
@@ -188,22 +191,22 @@ fn sizes(beam: &Lawful<'_, Beam>) -> BeamSizes
     }
 }
 
-// The strength of the concrete over the section.
-fn section_strength(beam: &Lawful<'_, Beam>) -> u64
-    ensures strength_times_width_times_depth { result ≡ section_strength beam.now.sheet }
+// The strength of the concrete over the section. Given the sizes and not the beam, as the next: none is looked up twice.
+fn section_strength(sizes: BeamSizes) -> u64
+    requires within_the_bounds { BeamBounds sizes }
+    ensures strength_times_width_times_depth { result ≡ sizes.strength * sizes.width * sizes.depth }
     ensures within_its_bound { result ≤ 300 * 2000 * 2000 }
 {
-    let sizes = sizes(beam);
     let width_strength = product::<MOST_STRENGTH, MOST_SIDE>(sizes.strength, sizes.width);
     product::<MOST_WIDTH_STRENGTH, MOST_SIDE>(width_strength, sizes.depth)
 }
 
 // The shear that the concrete bears, in the unit of the articles on shear.
-fn borne_shear(beam: &Lawful<'_, Beam>) -> u64
-    ensures zone_times_root_times_shear_area { result ≡ borne_shear beam.now.sheet }
+fn borne_shear(sizes: BeamSizes) -> u64
+    requires within_the_bounds { BeamBounds sizes }
+    ensures zone_times_root_times_shear_area { result ≡ sizes.zone * sizes.root * sizes.shear_area }
     ensures within_its_bound { result ≤ greatest_zone * greatest_root * 5000000 }
 {
-    let sizes = sizes(beam);
     let zone_root = product::<GREATEST_ZONE, GREATEST_ROOT>(sizes.zone, sizes.root);
     product::<MOST_ZONE_ROOT, MOST_SHEAR_AREA>(zone_root, sizes.shear_area)
 }

@@ -25,11 +25,12 @@ fn lawful_and_taken<M: Member, B: Book<M>>(book: &B, member: &M) -> Result<Verdi
     Ok(lowest_broken(book, &lawful))
 }
 
-// The lowest broken article, or a certificate where none is broken.
+// The lowest broken article, or a certificate where none is broken. No inclusive range: it would test at each article whether the
+// last was reached.
 fn lowest_broken<M: Member, B: Book<M>>(book: &B, member: &Lawful<'_, M>) -> Verdict
     ensures names_the_lowest_broken { result ≡ lowest ((B.Book.meaning book.now).finding member.now) 1 (B.Book.meaning book.now).count }
 {
-    for article in 1..=book.count() {
+    for article in 1..book.count() + 1 {
         if let Finding::Broken(sides) = book.finding(member, article) {
             return Verdict::Breaks(article, sides);
         }

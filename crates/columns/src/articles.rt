@@ -1,7 +1,7 @@
 // The column book. Each article is a function of its own, kept also where two are alike in shape alone: what an article
 // compares is all that it says, and is read beside the regulation by its number.
 ghost use Rattle.std.specs.Prelude.{true, ◌≡◌, ◌*◌, ◌≤◌};
-ghost use Rattle.columns.specs.Articles.{column_sizes, ColumnBounds, least_bar_area, most_bar_area, least_tension_area, confined_by_side, confined_by_diameter, most_confined_spacing, normal_by_side, most_normal_spacing, section, column_meaning};
+ghost use Rattle.columns.specs.Articles.{column_sizes, ColumnBounds, least_bar_area, most_bar_area, least_tension_area, confined_by_side, confined_by_diameter, most_confined_spacing, normal_by_side, most_normal_spacing, column_meaning};
 
 use books::answers::Finding;
 use books::book::{Book, Lawful};
@@ -49,7 +49,7 @@ fn least_bar_area(column: &Lawful<'_, Column>) -> Finding
     ensures bar_area_at_least_a_share_of_the_section { result ≡ least_bar_area column.now.sheet }
 {
     let sizes = sizes(column);
-    Finding::at_least(100 * sizes.bars, section(column))
+    Finding::at_least(100 * sizes.bars, section(sizes))
 }
 
 // 5.6.2.4.1: the bars are at most six hundredths of the section.
@@ -57,7 +57,7 @@ fn most_bar_area(column: &Lawful<'_, Column>) -> Finding
     ensures bar_area_at_most_a_share_of_the_section { result ≡ most_bar_area column.now.sheet }
 {
     let sizes = sizes(column);
-    Finding::at_most(100 * sizes.bars, 6 * section(column))
+    Finding::at_most(100 * sizes.bars, 6 * section(sizes))
 }
 
 // 5.6.2.4.1: the bars of the tension face are at least four thousandths of the section.
@@ -65,7 +65,7 @@ fn least_tension_area(column: &Lawful<'_, Column>) -> Finding
     ensures tension_area_against_the_section { result ≡ least_tension_area column.now.sheet }
 {
     let sizes = sizes(column);
-    Finding::at_least(1_000 * sizes.tension, 4 * section(column))
+    Finding::at_least(1_000 * sizes.tension, 4 * section(sizes))
 }
 
 // 5.6.2.5.3: the confined spacing is at most half the smaller side.
@@ -153,11 +153,11 @@ fn sizes(column: &Lawful<'_, Column>) -> ColumnSizes
     }
 }
 
-// The area of the section.
-fn section(column: &Lawful<'_, Column>) -> u64
-    ensures width_times_height { result ≡ section column.now.sheet }
+// The area of the section. Given the sizes and not the column: none is looked up twice.
+fn section(sizes: ColumnSizes) -> u64
+    requires within_the_bounds { ColumnBounds sizes }
+    ensures width_times_height { result ≡ sizes.width * sizes.height }
     ensures within_its_bound { result ≤ 2000 * 2000 }
 {
-    let sizes = sizes(column);
     product::<MOST_SIDE, MOST_SIDE>(sizes.width, sizes.height)
 }
