@@ -1,3 +1,4 @@
 pub mod Rows
 pub mod Fronted
 pub mod Steps
+pub mod Listed

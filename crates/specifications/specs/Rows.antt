@@ -1,5 +1,5 @@
 -- The eight rows that hold a specification's rules. Assumes nothing.
-use Rattle.std.specs.Prelude.{◌≡◌, ℕ, ◌-◌, ◌≤◌, List, ◌++◌, length, drop, replicate}
+use Rattle.std.specs.Prelude.{◌≡◌, ℕ, ◌-◌, ◌≤◌, List, length, drop, replicate}
 use Rattle.tables.specs.declared.codes.Quantity.TheVariants.{Thickness}
 use Rattle.tables.specs.declared.codes.Sense.TheVariants.{AtLeast}
 use Rattle.specifications.specs.declared.rule.Rule.{Rule}
@@ -13,7 +13,3 @@ pub record Counted (table : List Rule) (count : ℕ) : Type 0 where
   pub eight_rows : length table ≡ 8
   pub at_most_eight : count ≤ 8
   pub blank_after : drop count table ≡ replicate (8 - count) blank
-
--- the rules and then blank rows, eight in all
-abbrev pub rows_of : List Rule → List Rule
-rows_of rules = rules ++ replicate (8 - length rules) blank

@@ -1,7 +1,8 @@
 // A specification: rules that hang before a book, and the book that they make with it.
-ghost use Rattle.std.specs.Prelude.{◌≡◌, ◌≤◌, [], length};
+ghost use Rattle.std.specs.Prelude.{◌≡◌, ◌+◌, ◌≤◌, [], length};
 ghost use Rattle.books.specs.declared.answers.Finding.TheVariants.{NotApplicable};
-ghost use Rattle.specifications.specs.Fronted.{in_all, fronted, added, rules_after, StaysNamed};
+ghost use Rattle.specifications.specs.Listed.{rules_of};
+ghost use Rattle.specifications.specs.Fronted.{fronted, added, rules_after, StaysNamed};
 
 use crate::rule::Rule;
 use crate::rules::Rules;
@@ -25,7 +26,7 @@ impl<B> Specification<B> {
     pub fn before<M: Member>(behind: B) -> Specification<B>
     where
         B: Book<M>,
-        ensures no_rules_yet { result.rules ≡ [] }
+        ensures no_rules_yet { rules_of result.rules ≡ [] }
         ensures book_behind_as_given { result.behind ≡ behind }
         ensures named_articles_stay_named { StaysNamed M.Member.lawful M.Member.measure (B.Book.meaning behind) }
     {
@@ -38,8 +39,8 @@ impl<B> Specification<B> {
     // Adds a rule after the last. A number outside its limits is refused (I6), and then a ninth rule (S1); a refusal
     // changes nothing. Kept as numbers: the caller need not know which stand for a quantity or a sense.
     pub fn add(&mut self, quantity: u32, sense: u32, limit: u32) -> Result<(), JobFault>
-        ensures answer_by_the_grounds { result ≡ added quantity sense limit self.old.rules }
-        ensures rules_afterwards { self.new.rules ≡ rules_after quantity sense limit self.old.rules }
+        ensures answer_by_the_grounds { result ≡ added quantity sense limit (rules_of self.old.rules) }
+        ensures rules_afterwards { rules_of self.new.rules ≡ rules_after quantity sense limit (rules_of self.old.rules) }
         ensures book_behind_unchanged { self.new.behind ≡ self.old.behind }
     {
         let rule = Rule::of_numbers(quantity, sense, limit)?;
@@ -48,19 +49,17 @@ impl<B> Specification<B> {
 
     // How many rules there are.
     pub fn rule_count(&self) -> usize
-        ensures counts_the_rules { result ≡ length self.now.rules }
+        ensures counts_the_rules { result ≡ length (rules_of self.now.rules) }
         ensures at_most_eight_rules { result ≤ 8 }
     {
         self.rules.len()
     }
 
-    // How many articles there are in all: those of the book behind, then the rules.
-    fn in_all<M: Member>(&self) -> usize
-    where
-        B: Book<M>,
-        ensures articles_and_rules { result ≡ in_all self.now.rules (B.Book.meaning self.now.behind) }
+    // How many articles there are in all, where the book behind has so many: those, then the rules.
+    fn in_all(&self, behind: u32) -> usize
+        ensures articles_and_rules { result ≡ behind + length (rules_of self.now.rules) }
     {
-        self.behind.count() as usize + self.rules.len()
+        behind as usize + self.rules.len()
     }
 
     // What the article finds: one of the book behind, or else a rule by its place.
@@ -68,13 +67,13 @@ impl<B> Specification<B> {
     fn finding_by_place<M: Member>(&self, member: &Lawful<'_, M>, article: u32) -> Finding
     where
         B: Book<M>,
-        ensures finds_by_number { result ≡ (fronted M.Member.measure self.now.rules (B.Book.meaning self.now.behind)).finding member.now article }
+        ensures finds_by_number { result ≡ (fronted M.Member.measure (rules_of self.now.rules) (B.Book.meaning self.now.behind)).finding member.now article }
         ensures none_at_0 { article ≡ 0 → result ≡ NotApplicable }
     {
-        if self.in_all() > MOST_ARTICLES {
+        let count = self.behind.count();
+        if self.in_all(count) > MOST_ARTICLES {
             return Finding::NotApplicable;
         }
-        let count = self.behind.count();
         if article <= count {
             return self.behind.finding(member, article);
         }
@@ -87,16 +86,16 @@ impl<B> Specification<B> {
 }
 
 impl<M: Member, B: Book<M>> Book<M> for Specification<B> {
-    ghost meaning = { λ s. fronted M.Member.measure s.rules (B.Book.meaning s.behind) };
+    ghost meaning = { λ s. fronted M.Member.measure (rules_of s.rules) (B.Book.meaning s.behind) };
 
     // Whether the book behind takes the member, and there are no more than 64 articles in all.
     fn takes(&self, member: &Lawful<'_, M>) -> bool {
-        self.in_all() <= MOST_ARTICLES && self.behind.takes(member)
+        self.in_all(self.behind.count()) <= MOST_ARTICLES && self.behind.takes(member)
     }
 
     // The articles of the book behind and the rules, or none past 64.
     fn count(&self) -> u32 {
-        let count = self.in_all();
+        let count = self.in_all(self.behind.count());
         if count <= MOST_ARTICLES {
             count as u32
         } else {

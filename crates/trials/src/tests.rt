@@ -1,14 +1,16 @@
 // Each trial lends registers, sets rows as no call would, and compares what the calls answer and leave.
 use beams::articles::BeamBook;
+use books::book::Book;
 use cases::worked_wall;
 use columns::articles::ColumnBook;
 use faults::fault::{Origin, Refusal};
 use jobs::calls::{judge, lift, open, place, put_back, write};
 use jobs::hand::Hand;
 use jobs::lent::{Piles, Registers};
-use members::member::Wall;
+use members::member::{Beam, Wall};
 use registers::row::Row;
 use registers::rows::{BeamRow, ColumnRow, WallRow};
+use specifications::specification::Specification;
 use std::test::Fail;
 use tables::codes::Kind;
 use walls::articles::WallBook;
@@ -84,4 +86,18 @@ fn unlawful_rows_are_refused(rt: HostRuntime) -> Result<(), Fail> {
     assert_eq!(rt; written.map_err(Refusal::from), Err(S4));
     assert!(rt; buffer == [0u8; 200]);
     Ok(())
+}
+
+// How many articles a specification has, which is passed by value.
+fn articles_of(specification: Specification<BeamBook>) -> u32 {
+    Book::<Beam>::count(&specification)
+}
+
+#[test]
+fn a_specification_is_copied_where_it_is_passed(rt: HostRuntime) {
+    let mut specification = Specification::before::<Beam>(BeamBook);
+    let added = specification.add(1, 1, 100);
+    assert!(rt; added.is_ok());
+    assert_eq!(rt; articles_of(specification), 8);
+    assert_eq!(rt; articles_of(specification), 8);
 }
