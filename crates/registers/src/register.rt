@@ -1,6 +1,6 @@
 // The handling of a register, one text for every kind of row. A register ends before its first row of mark 0, and the
 // first row with a mark is meant; rows past the end stay as they are.
-ghost use Rattle.std.specs.Prelude.{◌≡◌, ◌<◌, ◌≤◌, length, replicate, IfSome, ◌==◌};
+ghost use Rattle.std.specs.Prelude.{◌≡◌, ◌<◌, ◌≤◌, length, replicate, IfSome, not, ◌==◌};
 ghost use Rattle.registers.specs.Registers.{free, ending, find, closed_up};
 ghost use Rattle.registers.specs.Filings.{entered};
 
@@ -26,7 +26,7 @@ pub fn find<M: Member, R: Row<M>>(register: &[R], mark: u32) -> Option<usize>
 {
     register
         .iter()
-        .take_while(|row| !is_free(*row))
+        .take_while(|row| is_filed(*row))
         .position(|row| has_mark(row, mark))
 }
 
@@ -35,6 +35,14 @@ fn is_free<M: Member, R: Row<M>>(row: &R) -> bool
     ensures free_at_mark_0 { result ≡ free R.Row.form row.now }
 {
     row.mark() == 0
+}
+
+// Whether a sheet is on the row: its mark is another than 0. Kept beside `is_free`, so that an edit can turn where a register ends
+// and leave what is found in it.
+fn is_filed<M: Member, R: Row<M>>(row: &R) -> bool
+    ensures filed_at_another_mark { result ≡ not (free R.Row.form row.now) }
+{
+    row.mark() != 0
 }
 
 // Whether the row has this mark.
