@@ -30,6 +30,14 @@ pub trait Fileable: Member + Copy + Default {
     fn is_moved(&self, note: &Note) -> bool
         ensures tells_whether_shear_moved { result ≡ moved note.now self.now };
 
+    // The member that its row stands for: itself. Kept as a function of each kind, so that another member is refused at its kind, by
+    // its value: one text for every kind could only fail to prove it.
+    fn as_filed(&self) -> Self
+        ensures the_member_itself { result ≡ self.now }
+    {
+        *self
+    }
+
     // the member on a free row is the default
     ghost free_by_default: { (m : Self) → Self.is_default m → m ≡ blank };
 }
@@ -66,7 +74,7 @@ impl<M: Fileable> Row<M> for Filed<M> {
     }
 
     fn member(&self) -> M {
-        self.member
+        self.member.as_filed()
     }
 
     fn certify(&self) -> Filed<M> {
